@@ -1,4 +1,5 @@
-//! Reads, judges and prints contracts, compiles them, and plays runs on a ledger and in the calculus at once.
+//! The program `bitml`: it hands words, files, standard output and SHA-256 to `bitml_tool` and ends with the status
+//! that comes back. Nothing else is done here, so nothing else has to be believed of it.
 #![tactic(auto)]
 
 use bitml_tool::run_tool;

@@ -11,7 +11,7 @@ use Rattle.spec_calculus.specs.Steps.{after_steps}
 use Rattle.spec_run.specs.declared.event.Event.{Event}
 use Rattle.spec_run.specs.Setup.{Setup}
 use Rattle.spec_run.specs.World.{World}
-use Rattle.spec_run.specs.Draft.{Answer, Went, Halted}
+use Rattle.spec_run.specs.Pending.{Answer, Went, Halted}
 use Rattle.spec_run.specs.Event.{Passed, event, goes_on, opening_world, played, played_from}
 use Rattle.spec_run.specs.Steps.{steps_of}
 use Rattle.spec_run.specs.Translation.{course, turns_from, world_after, opening_configuration}
@@ -70,7 +70,7 @@ turns_for_each : (s : Setup) (strings : List (List ℕ)) (g : Configuration) (w 
     → length (turns_from s strings g w ps) ≡ length ps
 turns_for_each s strings g w [] = refl
 turns_for_each s strings g w (p ∷ ps) =
-    ap suc (turns_for_each s strings (after_steps g (steps_of s strings g w p.world p.event p.draft)) p.world ps)
+    ap suc (turns_for_each s strings (after_steps g (steps_of s strings g w p.world p.event p.pending)) p.world ps)
 
 few_entries : (s : Setup) (es : List Event) → length (entries s es) ≤ length es
 few_entries s es =

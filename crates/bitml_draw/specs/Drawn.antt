@@ -29,7 +29,7 @@ seen drawing = plan drawing.run.now drawing.contract.now
 abbrev pub Answers : (List ℕ → List ℕ) → Option Command → Around → Around → ℕ → Type 0
 Answers hash command before now status = AnswersBy (drawn_answer hash command) (option_map files_of command) before now status
 
--- the same, or want of memory
+-- the same, or out of memory
 abbrev pub AnswersOrGivesUp : (List ℕ → List ℕ) → Option Command → Around → Around → ℕ → Type 0
 AnswersOrGivesUp hash command before now status =
     AnswersByOrGivesUp (drawn_answer hash command) (option_map files_of command) before now status

@@ -1,4 +1,5 @@
-//! Draws a contract and a run with it, as SVG.
+//! The program behind `bitml draw`, which draws a contract and a run as SVG. Its call `draw_tool` says that status and
+//! text are the defined ones, and that the text is a picture of that run.
 #![tactic(auto)]
 
 mod playing;

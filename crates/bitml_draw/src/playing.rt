@@ -22,7 +22,7 @@ use spec_run::{Event, Run};
 use spec_text::Entry;
 use spec_tool::Reply;
 use std::alloc::{AllocError, Global};
-use tool_replies::{ending_by, let_go, play};
+use tool_replies::{ending_by, leak, play};
 use tool_shows::entries_by;
 
 // How a run ends, as it is drawn.
@@ -112,7 +112,7 @@ pub(crate) fn draw_reply<H: Hash32 + Drop>(
         Err(_) => Err(AllocError),
         Ok((world, stop)) => {
             let reply = left_reply(alloc, title, &contract, &world, run.events.as_slice(), stop);
-            let_go(world);
+            leak(world);
             reply
         }
     }

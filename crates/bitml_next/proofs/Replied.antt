@@ -26,7 +26,7 @@ use Rattle.tool_replies.specs.Halting.{halt_printed}
 use Rattle.tool_replies.specs.Last.{IsWhole}
 use Rattle.tool_replies.proofs.Ended.{whole_if}
 use Rattle.tool_replies.proofs.Left.{last_is}
-use Rattle.bm_world_heard.specs.Heard.{Clashes, Stopped}
+use Rattle.bm_world_heard.specs.Heard.{CollidesHere, Stopped}
 
 -- ---- what is told
 
@@ -42,15 +42,15 @@ told_path s g w list none e =
 
 -- ---- a halt
 
-clash_is : {E : Type 0} (r : Result Reply E) (hash : List ℕ → List ℕ) (old new strings : List (List ℕ)) (halt : Halt) (text : List ℕ)
-    → Clashes hash old new strings halt → IfOk r (λ reply. Some (printed reply) ≡ halt_printed halt)
+collision_is : {E : Type 0} (r : Result Reply E) (hash : List ℕ → List ℕ) (old new strings : List (List ℕ)) (halt : Halt) (text : List ℕ)
+    → CollidesHere hash old new strings halt → IfOk r (λ reply. Some (printed reply) ≡ halt_printed halt)
     → IfOk r (λ reply. printed reply ≡ unless_collided (collision hash old strings) text)
-clash_is (Err e) hash old new strings halt text c h = tt
-clash_is (Ok reply) hash old new strings (Collided earlier later) text c h =
+collision_is (Err e) hash old new strings halt text c h = tt
+collision_is (Ok reply) hash old new strings (Collided earlier later) text c h =
     same_Some (printed reply) (prints 8 (collided_line earlier later)) h
     ∙ sym (ap (λ o. unless_collided o text) (c.collided earlier later refl))
-clash_is (Ok reply) hash old new strings (Guessed party secret) text c h = absurd (c.unguessed party secret refl)
-clash_is (Ok reply) hash old new strings Memory text c h = absurd (none-some (printed reply) (sym h))
+collision_is (Ok reply) hash old new strings (Guessed party secret) text c h = absurd (c.unguessed party secret refl)
+collision_is (Ok reply) hash old new strings Memory text c h = absurd (none-some (printed reply) (sym h))
 
 -- it is the one that is answered
 pub halted_is : {H E : Type 0} (digest : H → List ℕ → List ℕ) (g : Configuration) (old new : Played H) (halt : Halt) (r : Result Reply E)
@@ -59,7 +59,7 @@ pub halted_is : {H E : Type 0} (digest : H → List ℕ → List ℕ) (g : Confi
     → IfOk r (λ reply. Some (printed reply) ≡ halt_printed halt)
     → IfOk r (λ reply. printed reply ≡ told_of (setup_in digest old) g old.world)
 halted_is digest g old new halt r going t h =
-    clash_is r (digest old.hasher) old.world.hashed new.world.hashed
+    collision_is r (digest old.hasher) old.world.hashed new.world.hashed
     (foreseen_strings (setup_in digest old) old.world (all_candidates (setup_in digest old) g old.world)) halt
     (flat_map outlook_text (outlooks (setup_in digest old) g old.world)) (t.cause going) h
 

@@ -7,7 +7,7 @@ use Rattle.spec_terms.specs.declared.limit.Limit.{Limit}
 use Rattle.spec_terms.specs.declared.place.Place.{Place}
 use Rattle.spec_calculus.specs.Configuration.{Configuration}
 use Rattle.spec_run.specs.Conditions.{HashesBytes}
-use Rattle.spec_run.specs.Draft.{Halt, Collided, Guessed}
+use Rattle.spec_run.specs.Pending.{Halt, Collided, Guessed}
 use Rattle.spec_run.specs.World.{World}
 use Rattle.spec_run.specs.declared.event.Event.{Event}
 use Rattle.spec_run.specs.Event.{opening_collision}
@@ -37,7 +37,7 @@ use Rattle.theory_next.specs.Never.{NeverIsSaid}
 use Rattle.theory_next.specs.Once.{CandidatesStandOnce}
 use Rattle.theory_next.specs.Ready.{ReadyComesTheorem}
 use Rattle.theory_next.specs.Waits.{WaitsAreMeant}
-use Rattle.theory_next.specs.Wants.{WantsAreExactTheorem}
+use Rattle.theory_next.specs.Requirements.{RequirementsAreExactTheorem}
 use Rattle.theory_text.proofs.Within.Adverts.{read_is_readable}
 use Rattle.theory_tool.proofs.Runs.{opens_calmly}
 use Rattle.bitml_next.specs.Shown.{SaysOfRun, ShowsRun, ShowsContract, ShowsTexts, Shows}
@@ -48,7 +48,7 @@ pub record Theorems : Type 0 where
   pub meant : CanIsMeant
   pub said : OffersAreSaid
   pub once : CandidatesStandOnce
-  pub wanting : WantsAreExactTheorem
+  pub outstanding : RequirementsAreExactTheorem
   pub waits : WaitsAreMeant
   pub never : NeverIsSaid
   pub last : RefusalsLast
@@ -129,7 +129,7 @@ module _ (s : Setup) (es : List Event) where
     meant = λ e. t.meant s (last_world s es) e;
     offered = λ offer i. t.said s es run offer i;
     once = t.once s es run;
-    wanting = λ e. t.wanting s (last_configuration s es) (last_world s es) e;
+    outstanding = λ e. t.outstanding s (last_configuration s es) (last_world s es) e;
     said = λ e. t.never.events s (last_configuration s es) (last_world s es) e;
     shown = λ k advert. t.never.contracts s (last_configuration s es) (last_world s es) k advert;
     lasting = t.last;

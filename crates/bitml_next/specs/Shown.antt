@@ -31,7 +31,7 @@ use Rattle.theory_next.specs.Never.{SaysWhatLacks, ShowsWhatComes}
 use Rattle.theory_next.specs.Once.{EachOnce}
 use Rattle.theory_next.specs.Ready.{ReadyComes}
 use Rattle.theory_next.specs.Waits.{WaitsForThose}
-use Rattle.theory_next.specs.Wants.{WantsAreExact}
+use Rattle.theory_next.specs.Requirements.{RequirementsAreExact}
 
 -- ---- after a run
 
@@ -46,20 +46,20 @@ pub record SaysOfRun (s : Setup) (es : List Event) (text : List ℕ) : Type 0 wh
       → IsSaid s (last_configuration s es) (last_world s es) offer.event
   -- no event is asked twice
   pub once : EachOnce (all_candidates s (last_configuration s es) (last_world s es))
-  -- what is wanting is exactly what fails
-  pub wanting : (e : Event) → WantsAreExact s (last_configuration s es) (last_world s es) e
+  -- what is missing is exactly what fails
+  pub outstanding : (e : Event) → RequirementsAreExact s (last_configuration s es) (last_world s es) e
   -- it is said, or of what never comes that alone
   pub said : (e : Event) → SaysWhatLacks s (last_configuration s es) (last_world s es) e
   -- refusals that are said to stay so do, but for a repeated digest, of which this says nothing
   pub lasting : RefusalsLast
   -- and which of a contract's events are shown
   pub shown : (k : ℕ) (advert : Advert) → ShowsWhatComes s (last_configuration s es) (last_world s es) k advert
-  -- a contract waits exactly for those who can give now something that is wanting
+  -- a contract waits exactly for those who can give now something that is missing
   pub waits : (k : ℕ) (advert : Advert) → contract_at (last_configuration s es).contracts k ≡ Some advert
       → WaitsForThose s (last_configuration s es) (last_world s es) k advert
-  -- where nothing is wanting, a contract begins and a branch is taken
+  -- where nothing is missing, a contract begins and a branch is taken
   pub ready : ReadyComes s es
-  -- where an authorisation or a height alone is wanting for a branch and is met, the branch can come
+  -- where an authorisation or a height alone is missing for a branch and is met, the branch can come
   pub alone : MetAlone s es
 
 -- ---- the first lines

@@ -31,7 +31,7 @@ HasFew _ = Unit {0}
 abbrev pub Answers : (List ℕ → List ℕ) → Option NextCommand → Around → Around → ℕ → Type 0
 Answers hash command before now status = AnswersBy (next_answer hash command) (option_map next_files command) before now status
 
--- the same, or want of memory
+-- the same, or out of memory
 abbrev pub AnswersOrGivesUp : (List ℕ → List ℕ) → Option NextCommand → Around → Around → ℕ → Type 0
 AnswersOrGivesUp hash command before now status =
     AnswersByOrGivesUp (next_answer hash command) (option_map next_files command) before now status
@@ -67,10 +67,10 @@ pub record Tells (hash : List ℕ → List ℕ) (words : List (List ℕ)) (befor
   pub unread : status ≡ 3 → RoseBy 1 before.read_faults now.read_faults
   -- a fault of the sink is answered only where its count rose
   pub unwritten : status ≡ 4 → RoseBy 1 before.write_faults now.write_faults
-  -- memory is never wanting where the words are no command
+  -- memory never runs out where the words are no command
   pub memory : status ≡ 5 → is_some (next_words words) ≡ true
 
--- a call that gives the defined answer, or gives up for want of memory, tells all of this
+-- a call that gives the defined answer, or gives up as memory ran out, tells all of this
 abbrev pub TellsAll : Type 0
 TellsAll = (hash : List ℕ → List ℕ) → HashesBytes hash → (words : List (List ℕ)) (before now : Around) (status : ℕ)
     → AnswersOrGivesUp hash (next_words words) before now status → Tells hash words before now status

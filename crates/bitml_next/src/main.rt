@@ -1,4 +1,5 @@
-//! Says what may come next in a run, and writes the first lines of one.
+//! The program behind `bitml next`. It says which events can come next in a run and what the others lack, or writes the
+//! first lines of a run. Its call `next_tool` has the theorems of `theory_next` for what it says.
 #![tactic(auto)]
 
 mod call;

@@ -26,7 +26,7 @@ use spec_next::Outlook;
 use spec_run::Run;
 use spec_tool::Reply;
 use std::alloc::Global;
-use tool_replies::{halt_reply, let_go, play_to_end};
+use tool_replies::{halt_reply, leak, play_to_end};
 
 // The lines of what comes next.
 fn told_reply(alloc: Global, list: &[Outlook]) -> Result<Reply, OutOfMemory>
@@ -83,7 +83,7 @@ pub(crate) fn next_reply<H: Hash32 + Drop>(
         Ok(world) => {
             let mut world = world;
             let reply = world_reply(alloc, &mut world);
-            let_go(world);
+            leak(world);
             reply
         }
     }

@@ -11,13 +11,13 @@ ghost use Rattle.theory_next.specs.Never.{NeverIsSaid};
 ghost use Rattle.theory_next.specs.Once.{CandidatesStandOnce};
 ghost use Rattle.theory_next.specs.Ready.{ReadyComesTheorem};
 ghost use Rattle.theory_next.specs.Waits.{WaitsAreMeant};
-ghost use Rattle.theory_next.specs.Wants.{WantsAreExactTheorem};
+ghost use Rattle.theory_next.specs.Requirements.{RequirementsAreExactTheorem};
 ghost use Rattle.bitml_next.specs.Told.{TellsAll};
 
 use theory_next::{
     can_is_meant, candidates_stand_once, first_events_go_through, first_lines_are_a_run,
     first_run_is_a_run, met_alone, never_is_said, offers_are_said, ready_comes, refusals_last,
-    waits_are_meant, wants_are_exact,
+    requirements_are_exact, waits_are_meant,
 };
 use theory_tool::valid_runs;
 
@@ -27,7 +27,7 @@ fn by_theorems()
     requires meant { CanIsMeant }
     requires said { OffersAreSaid }
     requires once { CandidatesStandOnce }
-    requires wanting { WantsAreExactTheorem }
+    requires outstanding { RequirementsAreExactTheorem }
     requires waits { WaitsAreMeant }
     requires never { NeverIsSaid }
     requires last { RefusalsLast }
@@ -39,7 +39,7 @@ fn by_theorems()
     ensures { TellsAll }
 {}
 
-/// A call that gives the defined answer, or gives up for want of memory, tells all that is known of it: each status comes exactly by its
+/// A call that gives the defined answer, or gives up as memory ran out, tells all that is known of it: each status comes exactly by its
 /// cause, and what is said of a run, or written of the first lines of one, is what the theorems say.
 pub(crate) fn answers_tell_all()
     ensures { TellsAll }
@@ -48,7 +48,7 @@ pub(crate) fn answers_tell_all()
     can_is_meant();
     offers_are_said();
     candidates_stand_once();
-    wants_are_exact();
+    requirements_are_exact();
     waits_are_meant();
     never_is_said();
     refusals_last();

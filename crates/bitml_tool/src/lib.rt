@@ -1,5 +1,5 @@
-//! The whole of the program `bitml` over files and a sink that are handed in: what each command replies to the texts of its files, and
-//! one call, whose clause is the headline.
+//! What `bitml` does, over files and an output that are handed in, so that tests and proofs can give their own.
+//! `run_tool` is the one call: its clause says what is read, what is written, and what each status means.
 #![tactic(auto)]
 
 mod answering;

@@ -13,9 +13,9 @@ use spec_data::{Bytes, OutOfMemory};
 use spec_tool::Reply;
 use std::alloc::Global;
 use tool_command::{Judgement, judge_both};
-use tool_replies::made_reply;
+use tool_replies::generated_reply;
 
-// The texts of a made run and its contract, judged as if they had been read. Nothing needs them after that, so they are let go.
+// The texts of a generated run and its contract, judged as if they had been read. Nothing needs them after that, so they are let go.
 fn judged(alloc: Global, run: Bytes, contract: Bytes) -> Result<Judgement, OutOfMemory>
     ensures files { IfOk result (JudgesFiles (run_in (Some run)) (Some contract ∷ [])) }
     ensures taken { IfOk result IsTakenIfAny }
@@ -23,7 +23,7 @@ fn judged(alloc: Global, run: Bytes, contract: Bytes) -> Result<Judgement, OutOf
     judge_both(alloc, &Some(run), &[Some(contract)])
 }
 
-// What is replied to the texts of a made run and its contract.
+// What is replied to the texts of a generated run and its contract.
 fn made_texts<H: Hash32 + Drop>(
     alloc: Global,
     hash: H,
@@ -35,7 +35,7 @@ fn made_texts<H: Hash32 + Drop>(
 {
     match judged(alloc, run, contract)? {
         Judgement::Refused(reply) => Ok(reply),
-        Judgement::Taken(run, contracts) => made_reply(alloc, hash, run, contracts),
+        Judgement::Taken(run, contracts) => generated_reply(alloc, hash, run, contracts),
     }
 }
 

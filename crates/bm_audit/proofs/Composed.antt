@@ -73,8 +73,8 @@ module _ {H : Type 0} (digest : H → List ℕ → List ℕ) where
   pub begin : (old : Played H) (cs : List Candidate) (text : List ℕ) → Midway digest old old cs text text 1 []
   begin old cs text = record { reach = reach_none digest old _; found = refl }
 
-  module _ (old mid new : Played H) (cs : List Candidate) (text rest front more : List ℕ) (line : ℕ) (before : List Finding)
-      (m : Midway digest old mid cs text rest line before) (cut : lines_of rest ≡ front ∷ lines_of more) where
+  module _ (old mid new : Played H) (cs : List Candidate) (text rest prefix more : List ℕ) (line : ℕ) (before : List Finding)
+      (m : Midway digest old mid cs text rest line before) (cut : lines_of rest ≡ prefix ∷ lines_of more) where
     abbrev s : Setup
     s = setup_in digest old
 
@@ -82,7 +82,7 @@ module _ {H : Type 0} (digest : H → List ℕ → List ℕ) where
     w = old.world
 
     abbrev given : Given
-    given = given_line front
+    given = given_line prefix
 
     -- the strings of the line, and those of the lines after it
     strings_cut : text_strings s w rest ≡ given_strings s w given ++ text_strings s w more
@@ -149,12 +149,12 @@ module _ {H : Type 0} (digest : H → List ℕ → List ℕ) (old new : Played H
 
 module _ {H : Type 0} (digest : H → List ℕ → List ℕ) where
   -- by the number of the next line
-  pub midway_next : (old mid new : Played H) (cs : List Candidate) (text rest front more : List ℕ) (line : ℕ) (before : List Finding)
-      → Midway digest old mid cs text rest line before → lines_of rest ≡ front ∷ lines_of more → (after : List Finding) (next : ℕ)
-      → next ≡ line + 1 → Adds digest mid new cs (given_line front) line before after → Midway digest old new cs text more next after
-  midway_next old mid new cs text rest front more line before m cut after next e h =
+  pub midway_next : (old mid new : Played H) (cs : List Candidate) (text rest prefix more : List ℕ) (line : ℕ) (before : List Finding)
+      → Midway digest old mid cs text rest line before → lines_of rest ≡ prefix ∷ lines_of more → (after : List Finding) (next : ℕ)
+      → next ≡ line + 1 → Adds digest mid new cs (given_line prefix) line before after → Midway digest old new cs text more next after
+  midway_next old mid new cs text rest prefix more line before m cut after next e h =
       subst (λ (n : ℕ). Midway digest old new cs text more n after) (sym e)
-      (midway_more digest old mid new cs text rest front more line before m cut after h)
+      (midway_more digest old mid new cs text rest prefix more line before m cut after h)
 
   pub begin_with : (old : Played H) (cs : List Candidate) (text : List ℕ) (findings : List Finding) → findings ≡ []
       → Midway digest old old cs text text 1 findings

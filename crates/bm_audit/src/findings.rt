@@ -27,7 +27,7 @@ fn is_huge(tx: &Tx) -> bool
     tx.inputs.len() > u32::MAX as usize
 }
 
-// Why the ledger would refuse a transaction, if it would. A huge one is taken for want of memory.
+// Why the ledger would refuse a transaction, if it would. A huge one counts as out of memory.
 fn ask<H: Hash32 + Drop>(world: &mut World<H>, tx: &Tx) -> Result<Option<Refusal>, Halt>
     ensures judged { IfOk result (Judged H.digest_of world.old world.new tx.now) }
     ensures stopped { IfErr result (Stopped H.digest_of world.old world.new
@@ -130,7 +130,7 @@ fn line_kind<H: Hash32 + Drop>(
     }
 }
 
-// The number of the next line. One of 2^32 lines is taken for want of memory.
+// The number of the next line. One of 2^32 lines counts as out of memory.
 fn next(line: u32) -> Result<u32, OutOfMemory>
     ensures { IfOk result (λ next. next ≡ line + 1) }
 {
@@ -202,8 +202,8 @@ pub(crate) fn findings_of<H: Hash32 + Drop>(
     let mut rest = text;
     let mut line = 1u32;
     while !rest.is_empty() {
-        let (front, more) = first_line(rest);
-        line = take_line(alloc, world, catalog, front, line, &mut findings)?;
+        let (prefix, more) = first_line(rest);
+        line = take_line(alloc, world, catalog, prefix, line, &mut findings)?;
         rest = more;
     }
     Ok(findings)

@@ -22,7 +22,7 @@ use spec_data::OutOfMemory;
 use spec_tool::Now;
 use std::alloc::{AllocError, Global};
 
-// A number of 32 bits; a greater one is taken for want of memory.
+// A number of 32 bits; a greater one counts as out of memory.
 fn narrow(number: usize) -> Result<u32, OutOfMemory>
     ensures { IfOk result (λ n. n ≡ number) }
 {

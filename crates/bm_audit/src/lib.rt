@@ -1,4 +1,5 @@
-//! What an audit finds of the transactions in a file, after a run, and how its report is printed.
+//! `audit` answers which transactions of a file are a contract's, what the ledger would say of them now, and which
+//! signatures are missing. This crate finds that after a run and writes the report.
 #![tactic(auto)]
 
 mod finding_text;

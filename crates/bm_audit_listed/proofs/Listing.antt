@@ -38,13 +38,13 @@ candidates_listed hash s =
 
 pub names_listed : (all : List Listed) (tx : Tx) → names_of (map as_candidate all) tx ≡ names_among all tx
 names_listed [] tx = refl
-names_listed (l ∷ all) tx = by_test (same_bare tx (tx_of l.draft)) (names_listed all tx)
+names_listed (l ∷ all) tx = by_test (same_bare tx (tx_of l.pending)) (names_listed all tx)
   where
     by_test : (b : Bool) → names_of (map as_candidate all) tx ≡ names_among all tx
         → map (λ (c : Candidate). c.which) (if b then as_candidate l ∷ filter (λ (c : Candidate). same_bare tx c.tx) (map as_candidate all)
         else filter (λ (c : Candidate). same_bare tx c.tx) (map as_candidate all))
-        ≡ map (λ (x : Listed). x.which) (if b then l ∷ filter (λ (x : Listed). same_bare tx (tx_of x.draft)) all
-        else filter (λ (x : Listed). same_bare tx (tx_of x.draft)) all)
+        ≡ map (λ (x : Listed). x.which) (if b then l ∷ filter (λ (x : Listed). same_bare tx (tx_of x.pending)) all
+        else filter (λ (x : Listed). same_bare tx (tx_of x.pending)) all)
     by_test true h = ap (λ (rest : List Which). l.which ∷ rest) h
     by_test false h = h
 
@@ -85,7 +85,7 @@ module _ (hash : List ℕ → List ℕ) (book : List Pair) (which : Which) where
 
 module _ (hash : List ℕ → List ℕ) (book : List Pair) (s : Instance) where
   abbrev missing_one : Listed → List Missing
-  missing_one l = missing_inputs hash book l.which (tx_of l.draft) 0 l.draft.spends l.signers
+  missing_one l = missing_inputs hash book l.which (tx_of l.pending) 0 l.pending.spends l.signers
 
   paths_missing : (ps : List (List PathStep × Unsigned))
       → flat_map missing_one (map (λ p. path_listed s (p.0) (p.1)) ps)

@@ -26,19 +26,19 @@ other_bytes tx other h = by_test (same_bare tx other) refl
     by_test true e = let t = (bytes_eq-Decides (stripped other) (stripped tx)).1 (same_stripped tx other e) in cc
     by_test false e = refl
 
-at_end : (front cs : List Candidate) (c : Candidate) → slice_get (front ++ c ∷ cs) (length front) ≡ Some c
+at_end : (prefix cs : List Candidate) (c : Candidate) → slice_get (prefix ++ c ∷ cs) (length prefix) ≡ Some c
 at_end [] cs c = refl
-at_end (x ∷ front) cs c = at_end front cs c
+at_end (x ∷ prefix) cs c = at_end prefix cs c
 
 -- the names of those from this place on
-pub names_from : (front cs : List Candidate) (tx : Tx)
-    → flat_map (name_at (front ++ cs) tx) (places_from (length front) (stripped tx) cs) ≡ names_of cs tx
-names_from front [] tx = refl
-names_from front (c ∷ cs) tx =
-    let e : length (front ++ c ∷ []) ≡ length front + 1 = length-append front (c ∷ []) in
-    let f : (front ++ c ∷ []) ++ cs ≡ front ++ c ∷ cs = append_assoc front (c ∷ []) cs in
+pub names_from : (prefix cs : List Candidate) (tx : Tx)
+    → flat_map (name_at (prefix ++ cs) tx) (places_from (length prefix) (stripped tx) cs) ≡ names_of cs tx
+names_from prefix [] tx = refl
+names_from prefix (c ∷ cs) tx =
+    let e : length (prefix ++ c ∷ []) ≡ length prefix + 1 = length-append prefix (c ∷ []) in
+    let f : (prefix ++ c ∷ []) ++ cs ≡ prefix ++ c ∷ cs = append_assoc prefix (c ∷ []) cs in
     by_bytes (bytes_eq (stripped c.tx) (stripped tx)) refl
-    ((λ i. flat_map (name_at (sym f i) tx) (places_from (sym e i) (stripped tx) cs)) ∙ names_from (front ++ c ∷ []) cs tx)
+    ((λ i. flat_map (name_at (sym f i) tx) (places_from (sym e i) (stripped tx) cs)) ∙ names_from (prefix ++ c ∷ []) cs tx)
   where
     here : (b : Bool) → (if b then c.which ∷ [] else []) ++ names_of cs tx
         ≡ map (λ (x : Candidate). x.which) (if b then c ∷ filter (λ (x : Candidate). same_bare tx x.tx) cs
@@ -47,12 +47,12 @@ names_from front (c ∷ cs) tx =
     here false = refl
 
     by_bytes : (b : Bool) → bytes_eq (stripped c.tx) (stripped tx) ≡ b
-        → flat_map (name_at (front ++ c ∷ cs) tx) (places_from (length front + 1) (stripped tx) cs) ≡ names_of cs tx
-        → flat_map (name_at (front ++ c ∷ cs) tx) (if b then length front ∷ places_from (length front + 1) (stripped tx) cs
-        else places_from (length front + 1) (stripped tx) cs)
+        → flat_map (name_at (prefix ++ c ∷ cs) tx) (places_from (length prefix + 1) (stripped tx) cs) ≡ names_of cs tx
+        → flat_map (name_at (prefix ++ c ∷ cs) tx) (if b then length prefix ∷ places_from (length prefix + 1) (stripped tx) cs
+        else places_from (length prefix + 1) (stripped tx) cs)
         ≡ names_of (c ∷ cs) tx
     by_bytes true e later =
-        let found = at_end front cs c in
+        let found = at_end prefix cs c in
         (λ i. name_by tx (found i) ++ later i) ∙ here (same_bare tx c.tx)
     by_bytes false e later =
         let no_name = other_bytes tx c.tx e in

@@ -36,7 +36,7 @@ candidates_by (Some c) = candidates_of c
 
 -- a transaction of the definitions without what it spends and who signs it
 abbrev pub as_candidate : Listed → Candidate
-as_candidate l = record { which = l.which; tx = tx_of l.draft }
+as_candidate l = record { which = l.which; tx = tx_of l.pending }
 
 -- ---- which of them a transaction is
 

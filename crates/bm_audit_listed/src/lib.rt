@@ -1,5 +1,5 @@
-//! The transactions that a contract is compiled to, by their names: which of them a transaction is, which no finding names, and
-//! which signatures they lack.
+//! A compiled contract's transactions by name, found by their bytes without witnesses. For `audit` it says which one a
+//! given transaction is, which ones a file doesn't have, and which signatures they lack.
 #![tactic(auto)]
 
 mod absence;

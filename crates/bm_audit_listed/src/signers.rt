@@ -58,7 +58,7 @@ fn owner_of<'a>(pre: &'a [Pre], name: &Name) -> Option<&'a Name>
     None
 }
 
-// Who signs for the deposit of this name. A name of no deposit, which no checked contract has, is taken for want of memory.
+// Who signs for the deposit of this name. A name of no deposit, which no checked contract has, counts as out of memory.
 fn put_signer(alloc: Global, checked: &Checked, name: &Name) -> Result<Seq<Label>, OutOfMemory>
     ensures { IfOk result (λ labels. labels ≡ listed.deposit_signer (put_owner checked.now name.now)) }
 {

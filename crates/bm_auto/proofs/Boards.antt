@@ -5,10 +5,10 @@ use Rattle.spec_run.specs.Conditions.{IsSetup, IsEvent}
 use Rattle.spec_run.specs.Setup.{Setup}
 use Rattle.spec_tool.specs.declared.rule.Rule.{Rule}
 use Rattle.spec_tool.specs.Turns.{rule_event}
-use Rattle.theory_world.specs.KeptApart.{NoClash}
+use Rattle.theory_world.specs.KeptApart.{NoCollision}
 use Rattle.theory_auto.specs.OwnRules.{IsHonest}
 use Rattle.bm_world_board.specs.declared.board.Board.{Board}
-use Rattle.bm_world_board.specs.Drafts.{setup_of, world_of}
+use Rattle.bm_world_board.specs.Prepares.{setup_of, world_of}
 use Rattle.bm_world.specs.Playing as world
 use Rattle.bm_world.specs.Playing.{setup_in, IsWorld}
 use Rattle.bm_auto.proofs.Tried.{event_is}
@@ -31,6 +31,6 @@ module _ {H : Type 0} (digest : H → List ℕ → List ℕ) (old : world.Played
       let setup : IsSetup (setup_in digest old) = subst IsSetup setup_is is.setup in
       event_is (setup_in digest old) old.world r e setup honest (has_event ∙ there)
 
-  -- no messages clash where nothing has halted
-  pub clear : old.halt ≡ None → NoClash (setup_in digest old).hash old.world.hashed
+  -- no messages collision where nothing has halted
+  pub clear : old.halt ≡ None → NoCollision (setup_in digest old).hash old.world.hashed
   clear none = (is.kept none).books.clear

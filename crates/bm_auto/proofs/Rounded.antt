@@ -10,7 +10,7 @@ use Rattle.spec_run.specs.declared.event.Event.{Event}
 use Rattle.spec_run.specs.declared.outcome.Record.{Record}
 use Rattle.spec_run.specs.Setup.{Setup}
 use Rattle.spec_run.specs.World.{World}
-use Rattle.spec_run.specs.Draft as run
+use Rattle.spec_run.specs.Pending as run
 use Rattle.spec_tool.specs.declared.rule.Rule.{Rule}
 use Rattle.spec_tool.specs.Turns.{Progress, Progressed, round, after_events, rounds_go, rounds_on, rounds, extended}
 use Rattle.theory_auto.specs.OwnRules.{IsHonest}
@@ -32,15 +32,15 @@ after_nothing : (x : Progressed) → after_events [] x ≡ x
 after_nothing (Err halt) = refl
 after_nothing (Ok p) = refl
 
-after_both : (front more : List Event) (x : Progressed) → after_events front (after_events more x) ≡ after_events (front ++ more) x
-after_both front more (Err halt) = refl
-after_both front more (Ok p) =
-    ap (λ (es : List Event). Ok (record { world = p.world; left = p.left; events = es })) (sym (append_assoc front more p.events))
+after_both : (prefix more : List Event) (x : Progressed) → after_events prefix (after_events more x) ≡ after_events (prefix ++ more) x
+after_both prefix more (Err halt) = refl
+after_both prefix more (Ok p) =
+    ap (λ (es : List Event). Ok (record { world = p.world; left = p.left; events = es })) (sym (append_assoc prefix more p.events))
 
 -- a halt ends all rounds
-caused_on : (front : List Event) (go : World → List Rule → Progressed) (halt : Halt) (x : Progressed) → IsCause halt x
-    → IsCause halt (after_events front (rounds_on x go))
-caused_on front go halt x c h is = ap (λ y. after_events front (rounds_on y go)) (c h is)
+caused_on : (prefix : List Event) (go : World → List Rule → Progressed) (halt : Halt) (x : Progressed) → IsCause halt x
+    → IsCause halt (after_events prefix (rounds_on x go))
+caused_on prefix go halt x c h is = ap (λ y. after_events prefix (rounds_on y go)) (c h is)
 
 caused_err : (halt : Halt) (x : Progressed) → (halt ≡ halts.Memory → ⊥) → IsCause halt x → (cause : run.Halt) × (x ≡ Err cause)
 caused_err halt x other c = let n = halt_named halt other in (n.0, c n.0 n.1)
@@ -185,7 +185,8 @@ module _ {H : Type 0} (digest : H → List ℕ → List ℕ) (old mid : world.Pl
             comes = comes_of ∙ ap (λ x. after_events events (rounds_on x go)) round_is ∙ ap (after_events events) on
                 ∙ after_both events t.taken (go new.world left') ∙ ap (λ (es : List Event). after_events es (go new.world left')) (sym t.events);
             adds = adds_of
-                ∙ ap (λ (es : List Event). events ++ (es ++ takes_on (round s mid.world left) add)) (by_setup (λ x. round_takes x mid.world left ≡ t.taken) t.adds)
+                ∙ ap (λ (es : List Event). events ++ (es ++ takes_on (round s mid.world left) add))
+                (by_setup (λ x. round_takes x mid.world left ≡ t.taken) t.adds)
                 ∙ ap (λ x. events ++ (t.taken ++ takes_on x add)) round_is
                 ∙ ap (λ (es : List Event). events ++ (t.taken ++ es)) added
                 ∙ sym (append_assoc events t.taken (add new.world left'))

@@ -33,11 +33,13 @@ onto_nothing (Ok p) = refl
 
 onto_kept : (left : List Rule) (taken : List Event) (r : Rule) (x : Progressed) → onto left taken (keeps r x) ≡ onto (left ++ r ∷ []) taken x
 onto_kept left taken r (Err halt) = refl
-onto_kept left taken r (Ok p) = ap (λ (rs : List Rule). Ok (record { world = p.world; left = rs; events = taken ++ p.events })) (sym (append_assoc left (r ∷ []) p.left))
+onto_kept left taken r (Ok p) =
+    ap (λ (rs : List Rule). Ok (record { world = p.world; left = rs; events = taken ++ p.events })) (sym (append_assoc left (r ∷ []) p.left))
 
 onto_taken : (left : List Rule) (taken : List Event) (e : Event) (x : Progressed) → onto left taken (takes e x) ≡ onto left (taken ++ e ∷ []) x
 onto_taken left taken e (Err halt) = refl
-onto_taken left taken e (Ok p) = ap (λ (es : List Event). Ok (record { world = p.world; left = left ++ p.left; events = es })) (sym (append_assoc taken (e ∷ []) p.events))
+onto_taken left taken e (Ok p) =
+    ap (λ (es : List Event). Ok (record { world = p.world; left = left ++ p.left; events = es })) (sym (append_assoc taken (e ∷ []) p.events))
 
 caused_onto : (left : List Rule) (taken : List Event) (halt : Halt) (x : Progressed) → IsCause halt x → IsCause halt (onto left taken x)
 caused_onto left taken halt x c h is = ap (onto left taken) (c h is)
@@ -81,7 +83,8 @@ begin_round digest old rules before honest = record {
 
 -- ---- one rule more
 
-module _ {H : Type 0} (digest : H → List ℕ → List ℕ) (old mid : world.Played H) (rules left : List Rule) (r : Rule) (rest : List Rule) (before later : List Event)
+module _ {H : Type 0} (digest : H → List ℕ → List ℕ) (old mid : world.Played H) (rules left : List Rule) (r : Rule) (rest : List Rule)
+    (before later : List Event)
     (m : Midway digest old mid rules left (r ∷ rest) before later) where
   abbrev s : Setup
   s = setup_in digest old
@@ -134,7 +137,8 @@ module _ {H : Type 0} (digest : H → List ℕ → List ℕ) (old mid : world.Pl
     }
 
     -- it is taken
-    pub taken_one : (e : Event) (longer : List Event) → longer ≡ later ++ e ∷ [] → Tries digest mid new r (Some e) → Midway digest old new rules left rest before longer
+    pub taken_one : (e : Event) (longer : List Event) → longer ≡ later ++ e ∷ [] → Tries digest mid new r (Some e)
+        → Midway digest old new rules left rest before longer
     taken_one e longer more t = record {
       setup = same_again old mid new m.setup t.setup;
       halt = t.halt ∙ m.halt;

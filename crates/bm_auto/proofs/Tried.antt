@@ -13,17 +13,17 @@ use Rattle.spec_run.specs.declared.outcome.Record.{Record}
 use Rattle.spec_run.specs.Setup.{Setup}
 use Rattle.spec_run.specs.World.{World}
 use Rattle.spec_run.specs.Conditions.{IsSetup, IsEvent}
-use Rattle.spec_run.specs.Draft.{Draft, Halted, guess, settle, settled}
-use Rattle.spec_run.specs.Draft as run
-use Rattle.spec_run.specs.Event.{draft, event, record_of}
+use Rattle.spec_run.specs.Pending.{Pending, Halted, guess, apply, applied}
+use Rattle.spec_run.specs.Pending as run
+use Rattle.spec_run.specs.Event.{pending, event, record_of}
 use Rattle.spec_run.specs.Values.{is_refused, RefusedKept}
 use Rattle.spec_tool.specs.declared.rule.Rule.{Rule}
 use Rattle.spec_tool.specs.Turns.{rule_event, Progressed, keeps, takes, tried, tried_if}
-use Rattle.theory_world.specs.KeptApart.{NoClash}
-use Rattle.theory_world.proofs.Hashed.{no_clash, all_new, among_head, among_tail}
+use Rattle.theory_world.specs.KeptApart.{NoCollision}
+use Rattle.theory_world.proofs.Hashed.{no_collision, all_new, among_head, among_tail}
 use Rattle.theory_world.proofs.Refused.{refusals_keep}
 use Rattle.theory_auto.specs.OwnRules.{IsHonest}
-use Rattle.theory_run.proofs.Events.Hashless.{carried, draft_same}
+use Rattle.theory_run.proofs.Events.Hashless.{carried, pending_same}
 use Rattle.theory_run.proofs.Fewer.{Within, again_calm}
 use Rattle.theory_auto.proofs.OwnRules.{done_by, declared_among, is_event}
 use Rattle.bm_world.specs.declared.halt.Halt.{Halt}
@@ -46,65 +46,65 @@ noted_again ms (t ∷ ts) h =
 
 -- ---- an event that went on
 
-record IsCalm (s : Setup) (w : World) (d : Draft) : Type 0 where
+record IsCalm (s : Setup) (w : World) (d : Pending) : Type 0 where
   calm : collision s.hash w.hashed d.hashes ≡ None
   unguessed : guess s w.posted d.posts d.allowed ≡ None
 
-calm_by : (s : Setup) (w next : World) (d : Draft) (c : Option (List ℕ × List ℕ)) (g : Option HeldSecret)
-    → collision s.hash w.hashed d.hashes ≡ c → guess s w.posted d.posts d.allowed ≡ g → settle w d c g ≡ run.Went d next → IsCalm s w d
+calm_by : (s : Setup) (w next : World) (d : Pending) (c : Option (List ℕ × List ℕ)) (g : Option HeldSecret)
+    → collision s.hash w.hashed d.hashes ≡ c → guess s w.posted d.posts d.allowed ≡ g → apply w d c g ≡ run.Went d next → IsCalm s w d
 calm_by s w next d (Some p) g a b h = cc
 calm_by s w next d None (Some held) a b h = cc
 calm_by s w next d None None a b h = record { calm = a; unguessed = b }
 
-calm_of : (s : Setup) (w next : World) (e : Event) → event s w e ≡ run.Went (draft s w e) next → IsCalm s w (draft s w e)
+calm_of : (s : Setup) (w next : World) (e : Event) → event s w e ≡ run.Went (pending s w e) next → IsCalm s w (pending s w e)
 calm_of s w next e h =
-    let d = draft s w e in
+    let d = pending s w e in
     calm_by s w next d (collision s.hash w.hashed d.hashes) (guess s w.posted d.posts d.allowed) refl refl h
 
-went_next : (d : Draft) (v next : World) → run.Went d v ≡ run.Went d next → v ≡ next
+went_next : (d : Pending) (v next : World) → run.Went d v ≡ run.Went d next → v ≡ next
 went_next d v next h = cc
 
 -- ---- it is played after it was tried
 
-module _ (s : Setup) (w : World) (r : Rule) (e : Event) (has : rule_event s w r ≡ Some e) (clear : NoClash s.hash w.hashed)
-    (went : event s w e ≡ run.Went (draft s w e) (settled w (draft s w e))) where
-  abbrev d : Draft
-  d = draft s w e
+module _ (s : Setup) (w : World) (r : Rule) (e : Event) (has : rule_event s w r ≡ Some e) (clear : NoCollision s.hash w.hashed)
+    (went : event s w e ≡ run.Went (pending s w e) (applied w (pending s w e))) where
+  abbrev d : Pending
+  d = pending s w e
 
   abbrev heard : List (List ℕ)
-  heard = noted_all w.hashed (draft s w e).hashes
+  heard = noted_all w.hashed (pending s w e).hashes
 
   abbrev after : World
-  after = record w { hashed = noted_all w.hashed (draft s w e).hashes }
+  after = record w { hashed = noted_all w.hashed (pending s w e).hashes }
 
-  same : draft s after e ≡ carried heard d
-  same = draft_same s w heard e
+  same : pending s after e ≡ carried heard d
+  same = pending_same s w heard e
 
   is_calm : IsCalm s w d
-  is_calm = calm_of s w (settled w d) e went
+  is_calm = calm_of s w (applied w d) e went
 
   within : Within d.hashes heard
   within = λ t i. all_new w.hashed d.hashes t i
 
   -- it goes on again, and leaves the same world
-  pub again : event s after e ≡ run.Went (carried heard d) (settled w d)
+  pub again : event s after e ≡ run.Went (carried heard d) (applied w d)
   again =
       let calm : collision s.hash heard d.hashes ≡ None =
-      again_calm s.hash heard d.hashes (no_clash s.hash w.hashed d.hashes clear is_calm.calm) within in
-      let left : settled after (carried heard d) ≡ settled w d =
+      again_calm s.hash heard d.hashes (no_collision s.hash w.hashed d.hashes clear is_calm.calm) within in
+      let left : applied after (carried heard d) ≡ applied w d =
       ap (λ (ms : List (List ℕ)). record d.world { hashed = ms; posted = w.posted ++ d.posts }) (noted_again heard d.hashes within) in
       ap (run.answer s after) same
-      ∙ ap (λ c. settle after (carried heard d) c (guess s w.posted d.posts d.allowed)) calm
-      ∙ ap (settle after (carried heard d) None) is_calm.unguessed
+      ∙ ap (λ c. apply after (carried heard d) c (guess s w.posted d.posts d.allowed)) calm
+      ∙ ap (apply after (carried heard d) None) is_calm.unguessed
       ∙ ap (run.Went (carried heard d)) left
 
-  pub played_is : (next : World) → event s after e ≡ run.Went (draft s after e) next → next ≡ settled w d
+  pub played_is : (next : World) → event s after e ≡ run.Went (pending s after e) next → next ≡ applied w d
   played_is next h =
-      let twice : run.Went (carried heard d) next ≡ run.Went (carried heard d) (settled w d) = ap (λ x. run.Went x next) (sym same) ∙ sym h ∙ again in
-      went_next (carried heard d) next (settled w d) twice
+      let twice : run.Went (carried heard d) next ≡ run.Went (carried heard d) (applied w d) = ap (λ x. run.Went x next) (sym same) ∙ sym h ∙ again in
+      went_next (carried heard d) next (applied w d) twice
 
   pub not_halted : (halt : run.Halt) → event s after e ≡ Halted halt → ⊥
-  not_halted halt h = let f : Halted halt ≡ run.Went (carried heard d) (settled w d) = sym h ∙ again in absurd (cc)
+  not_halted halt h = let f : Halted halt ≡ run.Went (carried heard d) (applied w d) = sym h ∙ again in absurd (cc)
 
 -- ---- by the answers of the world
 
@@ -148,15 +148,15 @@ module _ {H : Type 0} (digest : H → List ℕ → List ℕ) (old : world.Played
   }
 
   module _ (e : Event) (has : rule_event (setup_in digest old) old.world r ≡ Some e) where
-    abbrev comes_to : Draft
-    comes_to = draft s old.world e
+    abbrev comes_to : Pending
+    comes_to = pending s old.world e
 
     -- it is refused
     pub refused : (new : world.Played H) (passes : Bool) → passes ≡ false → Tested digest old new e passes → Tries digest old new r None
     refused new passes not_passed t =
         let is : is_refused comes_to.outcome ≡ true = not_false (is_refused comes_to.outcome) (sym t.passes ∙ not_passed) in
-        let next : World = settled old.world comes_to in
-        let kept : settled old.world comes_to ≡ new.world = subst (RefusedKept old.world) t.goes (refusals_keep s old.world e) is ∙ sym t.hears.world in
+        let next : World = applied old.world comes_to in
+        let kept : applied old.world comes_to ≡ new.world = subst (RefusedKept old.world) t.goes (refusals_keep s old.world e) is ∙ sym t.hears.world in
         record {
           setup = t.hears.setup;
           halt = t.hears.going.1 ∙ sym t.hears.going.0;
@@ -169,7 +169,7 @@ module _ {H : Type 0} (digest : H → List ℕ → List ℕ) (old : world.Played
         }
 
     -- it is played
-    module _ (mid : world.Played H) (clear : NoClash (setup_in digest old).hash old.world.hashed) (t : Tested digest old mid e true) where
+    module _ (mid : world.Played H) (clear : NoCollision (setup_in digest old).hash old.world.hashed) (t : Tested digest old mid e true) where
       -- what holds in the world where it was tried
       there : (P : Setup → World → Type 0) → P (setup_in digest mid) mid.world
           → P s (record old.world { hashed = noted_all old.world.hashed comes_to.hashes })
@@ -178,8 +178,8 @@ module _ {H : Type 0} (digest : H → List ℕ → List ℕ) (old : world.Played
       pub done : (new : world.Played H) (outcome : Outcome) → Went digest mid new e outcome → Tries digest old new r (Some e)
       done new outcome g =
           let is : is_refused comes_to.outcome ≡ false = not_true (is_refused comes_to.outcome) (sym t.passes) in
-          let next : World = settled old.world comes_to in
-          let went = there (λ x w. event x w e ≡ run.Went (draft x w e) new.world) g.goes.went in
+          let next : World = applied old.world comes_to in
+          let went = there (λ x w. event x w e ≡ run.Went (pending x w e) new.world) g.goes.went in
           let left : next ≡ new.world = sym (played_is s old.world r e has clear t.goes new.world went) in
           record {
             setup = same_again old mid new t.hears.setup g.setup;
@@ -190,11 +190,11 @@ module _ {H : Type 0} (digest : H → List ℕ → List ℕ) (old : world.Played
             adds = λ later. ap (λ o. taken_if s old.world o later) has ∙ ap (λ a. taken_before e a later) t.goes
                 ∙ ap (λ b. if b then later next else e ∷ later next) is ∙ ap (λ x. e ∷ later x) left;
             grows = ap events_of g.goes.trace
-                ∙ map-append (λ (x : Record). x.event) mid.trace (record_of e (draft (setup_in digest mid) mid.world e) ∷ [])
+                ∙ map-append (λ (x : Record). x.event) mid.trace (record_of e (pending (setup_in digest mid) mid.world e) ∷ [])
                 ∙ ap (λ rs. events_of rs ++ e ∷ []) t.hears.trace;
           }
 
-      -- nothing but want of memory can halt it then
+      -- nothing but out of memory can halt it then
       memory_only : (messages : List (List ℕ)) (halt : Halt) → Halts (setup_in digest mid) mid.world messages e halt → halt ≡ halts.Memory
       memory_only messages (halts.Collided earlier later) h =
           absurd (not_halted s old.world r e has clear t.goes (run.Collided earlier later)

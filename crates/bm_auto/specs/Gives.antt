@@ -47,8 +47,8 @@ Gives view (Err e) read = Refuses e read
 
 -- rules before those that are still read
 abbrev pub with_rules : List Rule → Result (List Rule) StrategyFault → Result (List Rule) StrategyFault
-with_rules front (Ok list) = Ok (front ++ list)
-with_rules front (Err fault) = Err fault
+with_rules prefix (Ok list) = Ok (prefix ++ list)
+with_rules prefix (Err fault) = Err fault
 
 -- what a line adds to the rules before it
 abbrev pub Added : List Rule → List Rule → Said → Type 0

@@ -3,7 +3,7 @@ use Rattle.std.specs.Prelude.{◌≡◌, ℕ, List, [], ◌∷◌, ◌++◌, Opt
 use Rattle.spec_run.specs.declared.event.Event.{Event}
 use Rattle.spec_run.specs.Setup.{Setup}
 use Rattle.spec_run.specs.World.{World}
-use Rattle.spec_run.specs.Draft as draft
+use Rattle.spec_run.specs.Pending as pending
 use Rattle.spec_tool.specs.declared.rule.Rule.{Rule}
 use Rattle.spec_tool.specs.Turns.{rule_event, Progressed, keeps, takes, tried_if}
 use Rattle.bm_world.specs.Playing.{Played, setup_in, SameSetup, StoppedBy}
@@ -39,9 +39,9 @@ pub record Tries {H : Type 0} (digest : H → List ℕ → List ℕ) (old new : 
       ≡ taken_by taken ++ later new.world
   pub grows : events_of new.trace ≡ events_of old.trace ++ taken_by taken
 
--- the rounds end with this halt; want of memory may come anywhere
+-- the rounds end with this halt; out of memory may come anywhere
 abbrev pub IsCause : Halt → Progressed → Type 0
-IsCause halt comes = (h : draft.Halt) → halt_of halt ≡ Some h → comes ≡ Err h
+IsCause halt comes = (h : pending.Halt) → halt_of halt ≡ Some h → comes ≡ Err h
 
 -- the event of the rule halts, whatever comes of those behind it
 pub record Ends (s : Setup) (w : World) (r : Rule) (halt : Halt) : Type 0 where

@@ -14,7 +14,7 @@ pub enum StrategyError {
     BadLine(u32),
     /// The first line that is one rule too many.
     Limit(u32),
-    /// Want of memory.
+    /// Out of memory.
     Memory,
 }
 

@@ -27,7 +27,7 @@ fn all_of<'a>(alloc: Global, rules: &'a [Rule]) -> Result<Vec<&'a Rule>, OutOfMe
 
 /// Goes on with a run by the rules of a strategy: rounds follow one another until one takes no rule. The events of the rules that were
 /// taken are given, in order, and they stand in the trace, after a halt too. A halt is that of the first event that is tried and halts,
-/// an earlier one of the world, or want of memory.
+/// an earlier one of the world, or out of memory.
 pub fn extend<H: Hash32 + Drop>(
     alloc: Global,
     world: &mut World<H>,

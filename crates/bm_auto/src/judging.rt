@@ -110,7 +110,7 @@ fn judge_text(
 }
 
 /// Judges the file of a strategy beside a run file of so many bytes, whose header and events these are. None of its bytes are given
-/// where it is too long; a text of more than 1,048,576 bytes, which no read gives, is taken for want of memory.
+/// where it is too long; a text of more than 1,048,576 bytes, which no read gives, counts as out of memory.
 pub fn judge_strategy(
     alloc: Global,
     run_bytes: usize,

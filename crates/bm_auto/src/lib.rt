@@ -1,4 +1,5 @@
-//! Strategies of honest parties: a strategy file is read and judged beside a run, and the run goes on by its rules, in rounds.
+//! Strategies, which `auto` follows: a file of rules for honest parties is read, and its rules add events to a run,
+//! round by round, until none is left that can be taken.
 #![tactic(auto)]
 
 mod acts;

@@ -61,8 +61,8 @@ pub fn read_strategy(
     let mut rest = text;
     let mut line = 1u32;
     while !rest.is_empty() {
-        let (front, more) = first_line(rest);
-        if let Err(error) = take_rule(alloc, header, &mut rules, front) {
+        let (prefix, more) = first_line(rest);
+        if let Err(error) = take_rule(alloc, header, &mut rules, prefix) {
             return Err(at_line(error, line));
         }
         rest = more;

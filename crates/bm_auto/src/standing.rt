@@ -3,9 +3,9 @@
 ghost use Rattle.std.specs.Prelude.{◌≡◌, ℕ, List, Some, slice_get};
 ghost use Rattle.spec_run.specs.World.{live_position};
 ghost use Rattle.spec_tool.specs.Turns as spec;
-ghost use Rattle.bm_world_board.specs.Drafts.{setup_of, world_of};
+ghost use Rattle.bm_world_board.specs.Prepares.{setup_of, world_of};
 
-use bm_plan::{front_of, last_branch};
+use bm_plan::{last_branch, prefix_of};
 use bm_syntax::walk::at;
 use bm_world_board::Board;
 use bm_world_coins::{Coins, HeldPosition};
@@ -49,6 +49,6 @@ pub(crate) fn taken_at(board: &Board, path: &Path) -> Option<(u32, u32)>
 {
     let checked = board.contract(0)?;
     let _branch = at(&checked.advert().root, path)?;
-    let number = standing_at(&board.coins, front_of(path))?;
+    let number = standing_at(&board.coins, prefix_of(path))?;
     Some((number, last_branch(path)))
 }

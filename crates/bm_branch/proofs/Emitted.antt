@@ -1,4 +1,4 @@
--- Lists that the code writes from the front.
+-- Lists that the code writes from the prefix.
 use Rattle.std.proofs.Common.{◌≡◌, ℕ, zero, suc, ◌+◌, ◌-◌, ◌<◌, List, [], ◌∷◌, ◌++◌, length, sym, ap, ◌∙◌, refl, arith, append_assoc}
 use Rattle.std.specs.Prelude.{replicate, reverse, nat_lt, true, false, ◌≤◌}
 use Rattle.std.proofs.lemmas.List.{reverse-append}

@@ -1,4 +1,5 @@
-//! The scripts of a contract's branches and positions, and the witnesses that open them.
+//! Scripts as bytes: that of each branch and position of a contract, and the witness that makes it true. The compiler
+//! calls it; `theory_script` says that nothing else makes such a script true.
 #![tactic(auto)]
 
 mod codes;

@@ -45,7 +45,7 @@ pub struct Active<'a> {
 pub enum StepError {
     /// The first premise that fails, counted from 1.
     NotEnabled(u8),
-    /// Want of memory.
+    /// Out of memory.
     Memory,
 }
 

@@ -1,4 +1,5 @@
-//! The contract calculus: configurations, which steps may be taken, and what they lead to.
+//! The twelve steps of the calculus on a configuration, the state of all contracts and deposits. A step is taken or
+//! refused by its first premise that fails. Each configuration here is one that legal steps lead to.
 #![tactic(auto)]
 
 mod beginning;

@@ -14,7 +14,7 @@ use Rattle.std.proofs.lemmas.List.{get_or_append_left, length-append}
 use Rattle.std.proofs.Math.Seq.{get_or-append_seam}
 use Rattle.bm_hash.proofs.Evidence.{place_push, place_within}
 use Rattle.bm_exchange.specs.declared.places.Places.{Places}
-use Rattle.bm_exchange.specs.Placed.{IsPlaced, IsMarked, IsOther, mark_of, first_place, marked_at, found_at, place_by, placed_at, is_place}
+use Rattle.bm_exchange.specs.Placed.{IsPlaced, IsMarked, IsOther, fingerprint_of, first_place, marked_at, found_at, place_by, placed_at, is_place}
 use Rattle.bm_exchange.proofs.Updates.{marked_there, marked_elsewhere, found_there, found_elsewhere}
 
 -- what was asked of a look-up's answer is so of what is looked up
@@ -46,99 +46,99 @@ not_here p n lt = by (p == n) refl
     by false h = refl
     by true h = let same : p ≡ n = grind arith in absurd (omega (arith, lt, same))
 
-module _ (front : List (List ℕ)) (s : List ℕ) (places : Places) (is : IsPlaced (front ++ s ∷ []) places) where
-  longer : length (front ++ s ∷ []) ≡ length front + 1
-  longer = length-append front (s ∷ [])
+module _ (prefix : List (List ℕ)) (s : List ℕ) (places : Places) (is : IsPlaced (prefix ++ s ∷ []) places) where
+  longer : length (prefix ++ s ∷ []) ≡ length prefix + 1
+  longer = length-append prefix (s ∷ [])
 
-  last : get_or (front ++ s ∷ []) (length front) [] ≡ s
-  last = get_or-append_seam front s [] []
+  last : get_or (prefix ++ s ∷ []) (length prefix) [] ≡ s
+  last = get_or-append_seam prefix s [] []
 
-  -- a mark that isn't at the last place is within the front
-  in_front : (m p : ℕ) → marked_at places.marked m ≡ Some p → (p ≡ length front → ⊥) → IsMarked front m p
-  in_front m p h other = by (p == length front) refl
+  -- a mark that isn't at the last place is within the prefix
+  before_this : (m p : ℕ) → marked_at places.marked m ≡ Some p → (p ≡ length prefix → ⊥) → IsMarked prefix m p
+  before_this m p h other = by (p == length prefix) refl
     where
-      old : IsMarked (front ++ s ∷ []) m p
-      old = is.marks m p h
+      old : IsMarked (prefix ++ s ∷ []) m p
+      old = is.fingerprints m p h
 
-      by : (b : Bool) → p == length front ≡ b → IsMarked front m p
+      by : (b : Bool) → p == length prefix ≡ b → IsMarked prefix m p
       by true e = absurd (other (grind arith))
       by false e =
           let within = old.within in
-          let lt : p < length front = grind (arith, within, longer, e) in record {
+          let lt : p < length prefix = grind (arith, within, longer, e) in record {
             within = lt;
-            marked = sym (ap mark_of (get_or_append_left front (s ∷ []) [] p lt)) ∙ old.marked;
+            marked = sym (ap fingerprint_of (get_or_append_left prefix (s ∷ []) [] p lt)) ∙ old.marked;
           }
 
   -- the last place has the mark of the last string
-  mark_last : (m p : ℕ) → marked_at places.marked m ≡ Some p → p ≡ length front → mark_of s ≡ m
-  mark_last m p h e = sym (ap mark_of (ap (λ k. get_or (front ++ s ∷ []) k []) e ∙ last)) ∙ (is.marks m p h).marked
+  fingerprint_last : (m p : ℕ) → marked_at places.marked m ≡ Some p → p ≡ length prefix → fingerprint_of s ≡ m
+  fingerprint_last m p h e = sym (ap fingerprint_of (ap (λ k. get_or (prefix ++ s ∷ []) k []) e ∙ last)) ∙ (is.fingerprints m p h).marked
 
-  -- a string among the others that isn't the last is within the front
-  other_in_front : (index : BTreeMap ℕ ℕ) (q : List ℕ) (k : ℕ) → found_at places.others q ≡ Some k → (k ≡ length front → ⊥)
-      → ((p : ℕ) → p < k → marked_at places.marked (mark_of q) ≡ Some p → marked_at index (mark_of q) ≡ Some p)
-      → IsOther front index q k
-  other_in_front index q k h other keeps = by (k == length front) refl
+  -- a string among the others that isn't the last is within the prefix
+  other_before_this : (index : BTreeMap ℕ ℕ) (q : List ℕ) (k : ℕ) → found_at places.others q ≡ Some k → (k ≡ length prefix → ⊥)
+      → ((p : ℕ) → p < k → marked_at places.marked (fingerprint_of q) ≡ Some p → marked_at index (fingerprint_of q) ≡ Some p)
+      → IsOther prefix index q k
+  other_before_this index q k h other keeps = by (k == length prefix) refl
     where
-      old : IsOther (front ++ s ∷ []) places.marked q k
+      old : IsOther (prefix ++ s ∷ []) places.marked q k
       old = is.behind q k h
 
-      by : (b : Bool) → k == length front ≡ b → IsOther front index q k
+      by : (b : Bool) → k == length prefix ≡ b → IsOther prefix index q k
       by true e = absurd (other (grind arith))
       by false e =
           let within = old.within in
-          let lt : k < length front = grind (arith, within, longer, e) in record {
+          let lt : k < length prefix = grind (arith, within, longer, e) in record {
             within = lt;
-            there = sym (get_or_append_left front (s ∷ []) [] k lt) ∙ old.there;
+            there = sym (get_or_append_left prefix (s ∷ []) [] k lt) ∙ old.there;
             first = old.first;
             marked = keeps old.first old.behind old.marked;
             behind = old.behind;
           }
 
   -- a string that stands last among the others is the last string
-  last_other : (q : List ℕ) (k : ℕ) → found_at places.others q ≡ Some k → k ≡ length front → s ≡ q
-  last_other q k h e = sym (ap (λ j. get_or (front ++ s ∷ []) j []) e ∙ last) ∙ (is.behind q k h).there
+  last_other : (q : List ℕ) (k : ℕ) → found_at places.others q ≡ Some k → k ≡ length prefix → s ≡ q
+  last_other q k h e = sym (ap (λ j. get_or (prefix ++ s ∷ []) j []) e ∙ last) ∙ (is.behind q k h).there
 
-  low : (q : List ℕ) (j : ℕ) → first_place front q ≡ Some j → j < length front
-  low q j h = place_within (λ m. m) front q j h
+  low : (q : List ℕ) (j : ℕ) → first_place prefix q ≡ Some j → j < length prefix
+  low q j h = place_within (λ m. m) prefix q j h
 
-  whole : (q : List ℕ) → placed_at (front ++ s ∷ []) places q
-      ≡ option_or (first_place front q) (cond (bytes_eq s q) (Some (length front)) None)
-  whole q = is.at q ∙ place_push (λ m. m) front s q
+  whole : (q : List ℕ) → placed_at (prefix ++ s ∷ []) places q
+      ≡ option_or (first_place prefix q) (cond (bytes_eq s q) (Some (length prefix)) None)
+  whole q = is.at q ∙ place_push (λ m. m) prefix s q
 
-  whole_apart : (q : List ℕ) → bytes_eq s q ≡ false → placed_at (front ++ s ∷ []) places q ≡ first_place front q
-  whole_apart q h = whole q ∙ ap (λ b. option_or (first_place front q) (cond b (Some (length front)) None)) h ∙ or_none (first_place front q)
+  whole_apart : (q : List ℕ) → bytes_eq s q ≡ false → placed_at (prefix ++ s ∷ []) places q ≡ first_place prefix q
+  whole_apart q h = whole q ∙ ap (λ b. option_or (first_place prefix q) (cond b (Some (length prefix)) None)) h ∙ or_none (first_place prefix q)
 
   whole_same : (q : List ℕ) → bytes_eq s q ≡ true
-      → placed_at (front ++ s ∷ []) places q ≡ option_or (first_place front q) (Some (length front))
-  whole_same q h = whole q ∙ ap (λ b. option_or (first_place front q) (cond b (Some (length front)) None)) h
+      → placed_at (prefix ++ s ∷ []) places q ≡ option_or (first_place prefix q) (Some (length prefix))
+  whole_same q h = whole q ∙ ap (λ b. option_or (first_place prefix q) (cond b (Some (length prefix)) None)) h
 
-  -- a place within the front has the same string in both
-  place_front : (q : List ℕ) (o other : Option ℕ) → ((p : ℕ) → o ≡ Some p → p < length front)
-      → place_by front q o other ≡ place_by (front ++ s ∷ []) q o other
-  place_front q None other h = refl
-  place_front q (Some p) other h =
-      ap (λ x. cond (bytes_eq x q) (Some p) other) (sym (get_or_append_left front (s ∷ []) [] p (h p refl)))
+  -- a place within the prefix has the same string in both
+  place_prefix : (q : List ℕ) (o other : Option ℕ) → ((p : ℕ) → o ≡ Some p → p < length prefix)
+      → place_by prefix q o other ≡ place_by (prefix ++ s ∷ []) q o other
+  place_prefix q None other h = refl
+  place_prefix q (Some p) other h =
+      ap (λ x. cond (bytes_eq x q) (Some p) other) (sym (get_or_append_left prefix (s ∷ []) [] p (h p refl)))
 
   -- ---- where the last string is the first of its mark
 
-  pub forgotten_marked : (after : BTreeMap ℕ ℕ) (m : ℕ) → m ≡ mark_of s → is_place (marked_at places.marked m) (length front) ≡ true
+  pub forgotten_marked : (after : BTreeMap ℕ ℕ) (m : ℕ) → m ≡ fingerprint_of s → is_place (marked_at places.marked m) (length prefix) ≡ true
       → tree.UpdatesBy nat_cmp (λ k. nat_cmp m k) places.marked after None
-      → IsPlaced front (record { marked = after; others = places.others })
+      → IsPlaced prefix (record { marked = after; others = places.others })
   forgotten_marked after m of first updates = record {
-    at = λ q. by q (m == mark_of q) refl;
-    marks = λ k p h. of_mark k p (m == k) refl h;
-    behind = λ q k h. of_string q k (m == mark_of q) refl h;
+    at = λ q. by q (m == fingerprint_of q) refl;
+    fingerprints = λ k p h. of_fingerprint k p (m == k) refl h;
+    behind = λ q k h. of_string q k (m == fingerprint_of q) refl h;
   }
     where
-      here : marked_at places.marked m ≡ Some (length front)
+      here : marked_at places.marked m ≡ Some (length prefix)
       here = by_first (marked_at places.marked m) first
         where
-          by_first : (o : Option ℕ) → is_place o (length front) ≡ true → o ≡ Some (length front)
+          by_first : (o : Option ℕ) → is_place o (length prefix) ≡ true → o ≡ Some (length prefix)
           by_first None h = cc
-          by_first (Some p) h = let same : p ≡ length front = grind arith in ap Some same
+          by_first (Some p) h = let same : p ≡ length prefix = grind arith in ap Some same
 
-      here_of : (k : ℕ) → m == k ≡ true → marked_at places.marked k ≡ Some (length front)
-      here_of k h = let same : m ≡ k = grind arith in subst (λ j. marked_at places.marked j ≡ Some (length front)) same here
+      here_of : (k : ℕ) → m == k ≡ true → marked_at places.marked k ≡ Some (length prefix)
+      here_of k h = let same : m ≡ k = grind arith in subst (λ j. marked_at places.marked j ≡ Some (length prefix)) same here
 
       gone : (k : ℕ) → m == k ≡ true → marked_at after k ≡ None
       gone k h = marked_there m places.marked after None updates k (grind arith)
@@ -146,141 +146,141 @@ module _ (front : List (List ℕ)) (s : List ℕ) (places : Places) (is : IsPlac
       stays : (k : ℕ) → m == k ≡ false → marked_at after k ≡ marked_at places.marked k
       stays k h = marked_elsewhere m places.marked after None updates k h
 
-      elsewhere : (k p : ℕ) → m == k ≡ false → marked_at places.marked k ≡ Some p → p ≡ length front → ⊥
-      elsewhere k p h found e = let same : m ≡ k = of ∙ mark_last k p found e in absurd (grind arith)
+      elsewhere : (k p : ℕ) → m == k ≡ false → marked_at places.marked k ≡ Some p → p ≡ length prefix → ⊥
+      elsewhere k p h found e = let same : m ≡ k = of ∙ fingerprint_last k p found e in absurd (grind arith)
 
-      apart : (q : List ℕ) → m == mark_of q ≡ false → (b : Bool) → bytes_eq s q ≡ b → b ≡ false
+      apart : (q : List ℕ) → m == fingerprint_of q ≡ false → (b : Bool) → bytes_eq s q ≡ b → b ≡ false
       apart q h false t = refl
-      apart q h true t = let same : m ≡ mark_of q = of ∙ ap mark_of ((bytes_eq-Decides s q).0 t) in absurd (grind arith)
+      apart q h true t = let same : m ≡ fingerprint_of q = of ∙ ap fingerprint_of ((bytes_eq-Decides s q).0 t) in absurd (grind arith)
 
       -- no string of this mark is left
-      none_left : (q : List ℕ) → m == mark_of q ≡ true → first_place front q ≡ None
-      none_left q h = by_place (first_place front q) refl
+      none_left : (q : List ℕ) → m == fingerprint_of q ≡ true → first_place prefix q ≡ None
+      none_left q h = by_place (first_place prefix q) refl
         where
-          marked : placed_at (front ++ s ∷ []) places q ≡ cond (bytes_eq s q) (Some (length front)) (found_at places.others q)
+          marked : placed_at (prefix ++ s ∷ []) places q ≡ cond (bytes_eq s q) (Some (length prefix)) (found_at places.others q)
           marked =
-              ap (λ o. place_by (front ++ s ∷ []) q o (found_at places.others q)) (here_of (mark_of q) h)
-              ∙ ap (λ x. cond (bytes_eq x q) (Some (length front)) (found_at places.others q)) last
+              ap (λ o. place_by (prefix ++ s ∷ []) q o (found_at places.others q)) (here_of (fingerprint_of q) h)
+              ∙ ap (λ x. cond (bytes_eq x q) (Some (length prefix)) (found_at places.others q)) last
 
-          by_same : (j : ℕ) → first_place front q ≡ Some j → (b : Bool) → bytes_eq s q ≡ b → ⊥
+          by_same : (j : ℕ) → first_place prefix q ≡ Some j → (b : Bool) → bytes_eq s q ≡ b → ⊥
           by_same j there true t =
-              let is_last : Some (length front) ≡ Some j =
-              sym (ap (λ b. cond b (Some (length front)) (found_at places.others q)) t)
-              ∙ sym marked ∙ whole_same q t ∙ ap (λ o. option_or o (Some (length front))) there in
-              let same : length front ≡ j = cc in
+              let is_last : Some (length prefix) ≡ Some j =
+              sym (ap (λ b. cond b (Some (length prefix)) (found_at places.others q)) t)
+              ∙ sym marked ∙ whole_same q t ∙ ap (λ o. option_or o (Some (length prefix))) there in
+              let same : length prefix ≡ j = cc in
               let lt = low q j there in
               omega (arith, lt, same)
           by_same j there false t =
               let found : found_at places.others q ≡ Some j =
-              sym (ap (λ b. cond b (Some (length front)) (found_at places.others q)) t)
+              sym (ap (λ b. cond b (Some (length prefix)) (found_at places.others q)) t)
               ∙ sym marked ∙ whole_apart q t ∙ there in
               let old = is.behind q j found in
-              let first_is : Some old.first ≡ Some (length front) = sym old.marked ∙ here_of (mark_of q) h in
-              let same : old.first ≡ length front = cc in
+              let first_is : Some old.first ≡ Some (length prefix) = sym old.marked ∙ here_of (fingerprint_of q) h in
+              let same : old.first ≡ length prefix = cc in
               let after_it = old.behind in
               let lt = low q j there in
               omega (arith, lt, after_it, same)
 
-          by_place : (o : Option ℕ) → first_place front q ≡ o → o ≡ None
+          by_place : (o : Option ℕ) → first_place prefix q ≡ o → o ≡ None
           by_place None t = refl
           by_place (Some j) t = absurd (by_same j t (bytes_eq s q) refl)
 
-      by : (q : List ℕ) (b : Bool) → m == mark_of q ≡ b
-          → place_by front q (marked_at after (mark_of q)) (found_at places.others q) ≡ first_place front q
-      by q true h = ap (λ o. place_by front q o (found_at places.others q)) (gone (mark_of q) h) ∙ sym (none_left q h)
+      by : (q : List ℕ) (b : Bool) → m == fingerprint_of q ≡ b
+          → place_by prefix q (marked_at after (fingerprint_of q)) (found_at places.others q) ≡ first_place prefix q
+      by q true h = ap (λ o. place_by prefix q o (found_at places.others q)) (gone (fingerprint_of q) h) ∙ sym (none_left q h)
       by q false h =
-          ap (λ o. place_by front q o (found_at places.others q)) (stays (mark_of q) h)
-          ∙ place_front q (marked_at places.marked (mark_of q)) (found_at places.others q)
-          (λ p found. (in_front (mark_of q) p found (elsewhere (mark_of q) p h found)).within)
+          ap (λ o. place_by prefix q o (found_at places.others q)) (stays (fingerprint_of q) h)
+          ∙ place_prefix q (marked_at places.marked (fingerprint_of q)) (found_at places.others q)
+          (λ p found. (before_this (fingerprint_of q) p found (elsewhere (fingerprint_of q) p h found)).within)
           ∙ whole_apart q (apart q h (bytes_eq s q) refl)
 
-      of_mark : (k p : ℕ) (b : Bool) → m == k ≡ b → marked_at after k ≡ Some p → IsMarked front k p
-      of_mark k p true h found = let none = gone k h in cc
-      of_mark k p false h found = let before = sym (stays k h) ∙ found in in_front k p before (elsewhere k p h before)
+      of_fingerprint : (k p : ℕ) (b : Bool) → m == k ≡ b → marked_at after k ≡ Some p → IsMarked prefix k p
+      of_fingerprint k p true h found = let none = gone k h in cc
+      of_fingerprint k p false h found = let before = sym (stays k h) ∙ found in before_this k p before (elsewhere k p h before)
 
-      of_string : (q : List ℕ) (k : ℕ) (b : Bool) → m == mark_of q ≡ b → found_at places.others q ≡ Some k → IsOther front after q k
+      of_string : (q : List ℕ) (k : ℕ) (b : Bool) → m == fingerprint_of q ≡ b → found_at places.others q ≡ Some k → IsOther prefix after q k
       of_string q k true h found =
           let old = is.behind q k found in
-          let first_is : Some old.first ≡ Some (length front) = sym old.marked ∙ here_of (mark_of q) h in
-          let same : old.first ≡ length front = cc in
+          let first_is : Some old.first ≡ Some (length prefix) = sym old.marked ∙ here_of (fingerprint_of q) h in
+          let same : old.first ≡ length prefix = cc in
           let after_it = old.behind in
           let within = old.within in
           absurd (omega (arith, after_it, within, longer, same))
       of_string q k false h found =
-          other_in_front after q k found
-          (λ e. let same : m ≡ mark_of q = of ∙ ap mark_of (last_other q k found e) in absurd (grind arith))
-          (λ p lt there. stays (mark_of q) h ∙ there)
+          other_before_this after q k found
+          (λ e. let same : m ≡ fingerprint_of q = of ∙ ap fingerprint_of (last_other q k found e) in absurd (grind arith))
+          (λ p lt there. stays (fingerprint_of q) h ∙ there)
 
   -- ---- where an earlier string has its mark
 
-  module _ (later : is_place (marked_at places.marked (mark_of s)) (length front) ≡ false) where
-    elsewhere : (m p : ℕ) → marked_at places.marked m ≡ Some p → p ≡ length front → ⊥
+  module _ (later : is_place (marked_at places.marked (fingerprint_of s)) (length prefix) ≡ false) where
+    elsewhere : (m p : ℕ) → marked_at places.marked m ≡ Some p → p ≡ length prefix → ⊥
     elsewhere m p h e =
-        let there : marked_at places.marked (mark_of s) ≡ Some (length front) =
-        ap (marked_at places.marked) (mark_last m p h e) ∙ h ∙ ap Some e in
-        let same : is_place (Some (length front)) (length front) ≡ false = sym (ap (λ o. is_place o (length front)) there) ∙ later in
+        let there : marked_at places.marked (fingerprint_of s) ≡ Some (length prefix) =
+        ap (marked_at places.marked) (fingerprint_last m p h e) ∙ h ∙ ap Some e in
+        let same : is_place (Some (length prefix)) (length prefix) ≡ false = sym (ap (λ o. is_place o (length prefix)) there) ∙ later in
         absurd (grind arith)
 
-    marks_front : (m p : ℕ) → marked_at places.marked m ≡ Some p → IsMarked front m p
-    marks_front m p h = in_front m p h (elsewhere m p h)
+    fingerprints_prefix : (m p : ℕ) → marked_at places.marked m ≡ Some p → IsMarked prefix m p
+    fingerprints_prefix m p h = before_this m p h (elsewhere m p h)
 
-    firsts : (q : List ℕ) (p : ℕ) → marked_at places.marked (mark_of q) ≡ Some p → p < length front
-    firsts q p h = (marks_front (mark_of q) p h).within
+    firsts : (q : List ℕ) (p : ℕ) → marked_at places.marked (fingerprint_of q) ≡ Some p → p < length prefix
+    firsts q p h = (fingerprints_prefix (fingerprint_of q) p h).within
 
     -- the string itself, by what the index has of it
-    itself : (o other : Option ℕ) → marked_at places.marked (mark_of s) ≡ o → is_place other (length front) ≡ false
-        → place_by (front ++ s ∷ []) s o other ≡ option_or (first_place front s) (Some (length front))
-        → place_by (front ++ s ∷ []) s o other ≡ first_place front s
-    itself None other h no_end e = earlier (first_place front s) None (length front) e refl
+    itself : (o other : Option ℕ) → marked_at places.marked (fingerprint_of s) ≡ o → is_place other (length prefix) ≡ false
+        → place_by (prefix ++ s ∷ []) s o other ≡ option_or (first_place prefix s) (Some (length prefix))
+        → place_by (prefix ++ s ∷ []) s o other ≡ first_place prefix s
+    itself None other h no_end e = earlier (first_place prefix s) None (length prefix) e refl
     itself (Some p) other h no_end e =
-        earlier (first_place front s) (cond (bytes_eq (get_or (front ++ s ∷ []) p []) s) (Some p) other) (length front) e
-        (by (bytes_eq (get_or (front ++ s ∷ []) p []) s))
+        earlier (first_place prefix s) (cond (bytes_eq (get_or (prefix ++ s ∷ []) p []) s) (Some p) other) (length prefix) e
+        (by (bytes_eq (get_or (prefix ++ s ∷ []) p []) s))
       where
-        by : (b : Bool) → is_place (cond b (Some p) other) (length front) ≡ false
-        by true = not_here p (length front) (firsts s p h)
+        by : (b : Bool) → is_place (cond b (Some p) other) (length prefix) ≡ false
+        by true = not_here p (length prefix) (firsts s p h)
         by false = no_end
 
     -- nothing of it is kept
-    pub forgotten_nothing : is_place (found_at places.others s) (length front) ≡ false → IsPlaced front places
+    pub forgotten_nothing : is_place (found_at places.others s) (length prefix) ≡ false → IsPlaced prefix places
     forgotten_nothing no_end = record {
       at = λ q. by q (bytes_eq s q) refl;
-      marks = marks_front;
-      behind = λ q k h. other_in_front places.marked q k h (not_last q k h) (λ p lt m. m);
+      fingerprints = fingerprints_prefix;
+      behind = λ q k h. other_before_this places.marked q k h (not_last q k h) (λ p lt m. m);
     }
       where
-        not_last : (q : List ℕ) (k : ℕ) → found_at places.others q ≡ Some k → k ≡ length front → ⊥
+        not_last : (q : List ℕ) (k : ℕ) → found_at places.others q ≡ Some k → k ≡ length prefix → ⊥
         not_last q k h e =
-            let there : found_at places.others s ≡ Some (length front) = ap (found_at places.others) (last_other q k h e) ∙ h ∙ ap Some e in
-            let same : is_place (Some (length front)) (length front) ≡ false = sym (ap (λ o. is_place o (length front)) there) ∙ no_end in
+            let there : found_at places.others s ≡ Some (length prefix) = ap (found_at places.others) (last_other q k h e) ∙ h ∙ ap Some e in
+            let same : is_place (Some (length prefix)) (length prefix) ≡ false = sym (ap (λ o. is_place o (length prefix)) there) ∙ no_end in
             absurd (grind arith)
 
-        of_itself : placed_at (front ++ s ∷ []) places s ≡ first_place front s
+        of_itself : placed_at (prefix ++ s ∷ []) places s ≡ first_place prefix s
         of_itself =
-            itself (marked_at places.marked (mark_of s)) (found_at places.others s) refl no_end
+            itself (marked_at places.marked (fingerprint_of s)) (found_at places.others s) refl no_end
             (whole_same s ((bytes_eq-Decides s s).1 refl))
 
-        by : (q : List ℕ) (b : Bool) → bytes_eq s q ≡ b → placed_at front places q ≡ first_place front q
-        by q false h = place_front q _ _ (firsts q) ∙ whole_apart q h
+        by : (q : List ℕ) (b : Bool) → bytes_eq s q ≡ b → placed_at prefix places q ≡ first_place prefix q
+        by q false h = place_prefix q _ _ (firsts q) ∙ whole_apart q h
         by q true h =
-            place_front q _ _ (firsts q)
-            ∙ subst (λ l. placed_at (front ++ s ∷ []) places l ≡ first_place front l) ((bytes_eq-Decides s q).0 h) of_itself
+            place_prefix q _ _ (firsts q)
+            ∙ subst (λ l. placed_at (prefix ++ s ∷ []) places l ≡ first_place prefix l) ((bytes_eq-Decides s q).0 h) of_itself
 
     -- it stands among the others
-    pub forgotten_other : (after : BTreeMap (Vec ℕ) ℕ) → is_place (found_at places.others s) (length front) ≡ true
+    pub forgotten_other : (after : BTreeMap (Vec ℕ) ℕ) → is_place (found_at places.others s) (length prefix) ≡ true
         → tree.UpdatesBy (λ x y. slice_cmp nat_cmp x.items y.items) (λ k. slice_cmp nat_cmp s k.items) places.others after None
-        → IsPlaced front (record { marked = places.marked; others = after })
+        → IsPlaced prefix (record { marked = places.marked; others = after })
     forgotten_other after at_end updates = record {
       at = λ q. by q (bytes_eq s q) refl;
-      marks = marks_front;
+      fingerprints = fingerprints_prefix;
       behind = λ q k h. of_string q k (bytes_eq s q) refl h;
     }
       where
-        here : found_at places.others s ≡ Some (length front)
+        here : found_at places.others s ≡ Some (length prefix)
         here = by_place (found_at places.others s) at_end
           where
-            by_place : (o : Option ℕ) → is_place o (length front) ≡ true → o ≡ Some (length front)
+            by_place : (o : Option ℕ) → is_place o (length prefix) ≡ true → o ≡ Some (length prefix)
             by_place None h = cc
-            by_place (Some p) h = let same : p ≡ length front = grind arith in ap Some same
+            by_place (Some p) h = let same : p ≡ length prefix = grind arith in ap Some same
 
         gone : (q : List ℕ) → bytes_eq s q ≡ true → found_at after q ≡ None
         gone q h = found_there s places.others after None updates q h
@@ -289,39 +289,39 @@ module _ (front : List (List ℕ)) (s : List ℕ) (places : Places) (is : IsPlac
         stays q h = found_elsewhere s places.others after None updates q h
 
         -- its place before, and its place now
-        forgets : (o : Option ℕ) → marked_at places.marked (mark_of s) ≡ o
-            → place_by (front ++ s ∷ []) s o (Some (length front)) ≡ option_or (first_place front s) (Some (length front))
-            → place_by (front ++ s ∷ []) s o None ≡ first_place front s
-        forgets None h e = earlier (first_place front s) None (length front) e refl
-        forgets (Some p) h e = by_first (bytes_eq (get_or (front ++ s ∷ []) p []) s) e
+        forgets : (o : Option ℕ) → marked_at places.marked (fingerprint_of s) ≡ o
+            → place_by (prefix ++ s ∷ []) s o (Some (length prefix)) ≡ option_or (first_place prefix s) (Some (length prefix))
+            → place_by (prefix ++ s ∷ []) s o None ≡ first_place prefix s
+        forgets None h e = earlier (first_place prefix s) None (length prefix) e refl
+        forgets (Some p) h e = by_first (bytes_eq (get_or (prefix ++ s ∷ []) p []) s) e
           where
-            by_first : (b : Bool) → cond b (Some p) (Some (length front)) ≡ option_or (first_place front s) (Some (length front))
-                → cond b (Some p) None ≡ first_place front s
-            by_first true t = earlier (first_place front s) (Some p) (length front) t (not_here p (length front) (firsts s p h))
-            by_first false t = sym (nowhere (first_place front s) (length front) (low s) t)
+            by_first : (b : Bool) → cond b (Some p) (Some (length prefix)) ≡ option_or (first_place prefix s) (Some (length prefix))
+                → cond b (Some p) None ≡ first_place prefix s
+            by_first true t = earlier (first_place prefix s) (Some p) (length prefix) t (not_here p (length prefix) (firsts s p h))
+            by_first false t = sym (nowhere (first_place prefix s) (length prefix) (low s) t)
 
-        of_itself : place_by (front ++ s ∷ []) s (marked_at places.marked (mark_of s)) None ≡ first_place front s
+        of_itself : place_by (prefix ++ s ∷ []) s (marked_at places.marked (fingerprint_of s)) None ≡ first_place prefix s
         of_itself =
-            forgets (marked_at places.marked (mark_of s)) refl
-            (sym (ap (place_by (front ++ s ∷ []) s (marked_at places.marked (mark_of s))) here)
+            forgets (marked_at places.marked (fingerprint_of s)) refl
+            (sym (ap (place_by (prefix ++ s ∷ []) s (marked_at places.marked (fingerprint_of s))) here)
             ∙ whole_same s ((bytes_eq-Decides s s).1 refl))
 
         by : (q : List ℕ) (b : Bool) → bytes_eq s q ≡ b
-            → place_by front q (marked_at places.marked (mark_of q)) (found_at after q) ≡ first_place front q
+            → place_by prefix q (marked_at places.marked (fingerprint_of q)) (found_at after q) ≡ first_place prefix q
         by q true h =
-            ap (place_by front q (marked_at places.marked (mark_of q))) (gone q h)
-            ∙ place_front q _ None (firsts q)
-            ∙ subst (λ l. place_by (front ++ s ∷ []) l (marked_at places.marked (mark_of l)) None ≡ first_place front l)
+            ap (place_by prefix q (marked_at places.marked (fingerprint_of q))) (gone q h)
+            ∙ place_prefix q _ None (firsts q)
+            ∙ subst (λ l. place_by (prefix ++ s ∷ []) l (marked_at places.marked (fingerprint_of l)) None ≡ first_place prefix l)
             ((bytes_eq-Decides s q).0 h) of_itself
         by q false h =
-            ap (place_by front q (marked_at places.marked (mark_of q))) (stays q h)
-            ∙ place_front q _ _ (firsts q) ∙ whole_apart q h
+            ap (place_by prefix q (marked_at places.marked (fingerprint_of q))) (stays q h)
+            ∙ place_prefix q _ _ (firsts q) ∙ whole_apart q h
 
-        of_string : (q : List ℕ) (k : ℕ) (b : Bool) → bytes_eq s q ≡ b → found_at after q ≡ Some k → IsOther front places.marked q k
+        of_string : (q : List ℕ) (k : ℕ) (b : Bool) → bytes_eq s q ≡ b → found_at after q ≡ Some k → IsOther prefix places.marked q k
         of_string q k true h found = let none = gone q h in cc
         of_string q k false h found =
             let before = sym (stays q h) ∙ found in
-            other_in_front places.marked q k before (apart q k h before) (λ p lt m. m)
+            other_before_this places.marked q k before (apart q k h before) (λ p lt m. m)
           where
-            apart : (q : List ℕ) (k : ℕ) → bytes_eq s q ≡ false → found_at places.others q ≡ Some k → k ≡ length front → ⊥
+            apart : (q : List ℕ) (k : ℕ) → bytes_eq s q ≡ false → found_at places.others q ≡ Some k → k ≡ length prefix → ⊥
             apart q k h before e = let same = (bytes_eq-Decides s q).1 (last_other q k before e) in cc

@@ -1,4 +1,4 @@
-pub mod Marks
+pub mod Fingerprints
 pub mod Updates
 pub mod Placing
 pub mod Posting

@@ -43,8 +43,8 @@ added_on old strings now next k s lt here is more =
 pub added_more : (old ys now : List (List ℕ)) → now ≡ old ++ ys → length old ≤ length now
 added_more old ys now is = let longer = ap length is ∙ length-append old ys in omega (arith, longer)
 
-pub added_front : (old ys now : List (List ℕ)) → now ≡ old ++ ys → take (length old) now ≡ old
-added_front old ys now is = ap (take (length old)) is ∙ take-append_seam old ys
+pub added_prefix : (old ys now : List (List ℕ)) → now ≡ old ++ ys → take (length old) now ≡ old
+added_prefix old ys now is = ap (take (length old)) is ∙ take-append_seam old ys
 
 -- ---- strings that are taken away again
 

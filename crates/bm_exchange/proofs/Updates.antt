@@ -21,8 +21,8 @@ order_equal true same h = cc
 order_equal false true h = refl
 order_equal false false h = cc
 
-same_mark : (m q : ℕ) → is_eq (nat_cmp m q) ≡ true → m ≡ q
-same_mark m q h = let same : m == q ≡ true = order_equal (nat_lt m q) (m == q) h in grind arith
+same_fingerprint : (m q : ℕ) → is_eq (nat_cmp m q) ≡ true → m ≡ q
+same_fingerprint m q h = let same : m == q ≡ true = order_equal (nat_lt m q) (m == q) h in grind arith
 
 pub marked_there : (m : ℕ) (index after : BTreeMap ℕ ℕ) (w : Option ℕ)
     → tree.UpdatesBy nat_cmp (λ k. nat_cmp m k) index after w → (q : ℕ) → m ≡ q → marked_at after q ≡ w
@@ -34,7 +34,7 @@ marked_elsewhere m index after w updates q apart = by (is_eq (nat_cmp m q)) refl
   where
     by : (b : Bool) → is_eq (nat_cmp m q) ≡ b → marked_at after q ≡ marked_at index q
     by false h = updates.2 q h
-    by true h = let same = same_mark m q h in absurd (grind arith)
+    by true h = let same = same_fingerprint m q h in absurd (grind arith)
 
 -- ---- strings
 

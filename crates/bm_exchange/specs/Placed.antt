@@ -11,8 +11,8 @@ use Rattle.bm_hash.specs.Messages.{place_of}
 use Rattle.bm_exchange.specs.declared.places.Places.{Places}
 
 -- the mark of a string: the number that its last eight bytes are, and 0 of a shorter one
-unfoldable pub mark_of : List ℕ → ℕ
-mark_of q = cond (nat_le 8 (length q)) (from_le_bytes w64 (drop (length q - 8) q)) 0
+unfoldable pub fingerprint_of : List ℕ → ℕ
+fingerprint_of q = cond (nat_le 8 (length q)) (from_le_bytes w64 (drop (length q - 8) q)) 0
 
 -- the first place of the string
 abbrev pub first_place : List (List ℕ) → List ℕ → Option ℕ
@@ -32,25 +32,25 @@ place_by strings q None other = None
 place_by strings q (Some p) other = cond (bytes_eq (get_or strings p []) q) (Some p) other
 
 abbrev pub placed_at : List (List ℕ) → Places → List ℕ → Option ℕ
-placed_at strings places q = place_by strings q (marked_at places.marked (mark_of q)) (found_at places.others q)
+placed_at strings places q = place_by strings q (marked_at places.marked (fingerprint_of q)) (found_at places.others q)
 
 -- a place has a string of this mark
 pub record IsMarked (strings : List (List ℕ)) (m p : ℕ) : Type 0 where
   pub within : p < length strings
-  pub marked : mark_of (get_or strings p []) ≡ m
+  pub marked : fingerprint_of (get_or strings p []) ≡ m
 
 -- a string stands at this place, behind the first string of its mark
 pub record IsOther (strings : List (List ℕ)) (index : BTreeMap ℕ ℕ) (q : List ℕ) (k : ℕ) : Type 0 where
   pub within : k < length strings
   pub there : get_or strings k [] ≡ q
   pub first : ℕ
-  pub marked : marked_at index (mark_of q) ≡ Some first
+  pub marked : marked_at index (fingerprint_of q) ≡ Some first
   pub behind : first < k
 
 -- the index tells of each string where it stands first
 pub record IsPlaced (strings : List (List ℕ)) (places : Places) : Type 0 where
   pub at : (q : List ℕ) → placed_at strings places q ≡ first_place strings q
-  pub marks : (m p : ℕ) → marked_at places.marked m ≡ Some p → IsMarked strings m p
+  pub fingerprints : (m p : ℕ) → marked_at places.marked m ≡ Some p → IsMarked strings m p
   pub behind : (q : List ℕ) (k : ℕ) → found_at places.others q ≡ Some k → IsOther strings places.marked q k
 
 -- whether the place is this one

@@ -1,5 +1,5 @@
-//! What the parties have told each other: the strings that were posted, the contracts that are advertised with their
-//! bindings, and the digests of secrets that were committed.
+//! What the parties of a run have told each other: posted strings, advertised contracts with the deposits that they
+//! bind, and committed hashes. Runs look up here what was said before.
 #![tactic(auto)]
 
 mod exchange;

@@ -4,7 +4,7 @@ ghost use Rattle.std.specs.Prelude.{◌≡◌, Some, IfOk, OnErr};
 ghost use Rattle.std.specs.BTreeMap.{UpdatesBy};
 ghost use Rattle.std.specs.Option.{option_copied, unwrap_or};
 ghost use Rattle.std.specs.Ordering.{nat_cmp};
-ghost use Rattle.bm_exchange.specs.Placed.{mark_of, marked_at, is_place};
+ghost use Rattle.bm_exchange.specs.Placed.{fingerprint_of, marked_at, is_place};
 
 use spec_data::OutOfMemory;
 use std::collections::BTreeMap;
@@ -18,8 +18,8 @@ pub(crate) struct Places {
 }
 
 /// The mark of a string: the number that its last eight bytes are, the lowest first, and 0 of a shorter one.
-pub(crate) fn mark_of(string: &[u8]) -> u64
-    ensures { result ≡ mark_of string.now }
+pub(crate) fn fingerprint_of(string: &[u8]) -> u64
+    ensures { result ≡ fingerprint_of string.now }
 {
     match string.last_chunk() {
         Some(last) => u64::from_le_bytes(*last),
@@ -28,16 +28,16 @@ pub(crate) fn mark_of(string: &[u8]) -> u64
 }
 
 /// Puts the place of a mark in the index, unless an earlier string has it; the place that the mark has then.
-pub(crate) fn add_mark(
+pub(crate) fn add_fingerprint(
     marked: &mut BTreeMap<u64, usize>,
-    mark: u64,
+    fingerprint: u64,
     place: usize,
 ) -> Result<usize, OutOfMemory>
-    ensures first { IfOk result (λ first. first ≡ unwrap_or (marked_at marked.old mark) place) }
-    ensures put { IfOk result (λ first. UpdatesBy nat_cmp (λ k. nat_cmp mark k) marked.old marked.new (Some first)) }
+    ensures first { IfOk result (λ first. first ≡ unwrap_or (marked_at marked.old fingerprint) place) }
+    ensures put { IfOk result (λ first. UpdatesBy nat_cmp (λ k. nat_cmp fingerprint k) marked.old marked.new (Some first)) }
     ensures err { OnErr result (marked.new.entries ≡ marked.old.entries) }
 {
-    let first = *marked.entry(mark)?.or_insert(place);
+    let first = *marked.entry(fingerprint)?.or_insert(place);
     Ok(first)
 }
 

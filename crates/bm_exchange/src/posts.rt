@@ -53,7 +53,7 @@ fn is_one_of(strings: &Pieces, string: &[u8]) -> bool
 fn add_all(indexed: &mut Strings, strings: &Pieces) -> Result<(), OutOfMemory>
     ensures ok { OnOk result (indexed.new ≡ indexed.old ++ strings.now) }
     ensures more { length indexed.old ≤ length indexed.new }
-    ensures front { take (length indexed.old) indexed.new ≡ indexed.old }
+    ensures prefix { take (length indexed.old) indexed.new ≡ indexed.old }
 {
     for number in 0..strings.len() {
         indexed.add(strings.get(number))?;

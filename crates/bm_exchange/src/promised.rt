@@ -113,7 +113,7 @@ pub(crate) fn all_digests(
 fn add_digests(used: &mut Strings, digests: &[(Name, [u8; 32])]) -> Result<(), OutOfMemory>
     ensures ok { OnOk result (used.new ≡ used.old ++ map (λ d. d.1) digests.now) }
     ensures more { length used.old ≤ length used.new }
-    ensures front { take (length used.old) used.new ≡ used.old }
+    ensures prefix { take (length used.old) used.new ≡ used.old }
 {
     for pair in digests {
         used.add(&pair.1)?;

@@ -3,9 +3,9 @@
 ghost use Rattle.std.specs.Prelude.{List, ℕ, ◌≡◌, ◌++◌, ◌∷◌, [], ◌<◌, ◌≤◌, ◌-◌, true, false, if◌then◌else◌, length, take, is_some, IfOk, OnOk, OnErr};
 ghost use Rattle.std.specs.Str.{bytes_eq};
 ghost use Rattle.spec_data.specs.Lists.{is_among};
-ghost use Rattle.bm_exchange.specs.Placed.{IsPlaced, mark_of, marked_at};
+ghost use Rattle.bm_exchange.specs.Placed.{IsPlaced, fingerprint_of, marked_at};
 
-use crate::places::{Places, add_mark, is_here, mark_of};
+use crate::places::{Places, add_fingerprint, fingerprint_of, is_here};
 use bm_hash::Pieces;
 use spec_data::{OutOfMemory, end_apart};
 use std::alloc::{AllocError, Global};
@@ -99,7 +99,7 @@ fn is_there(strings: &Pieces, places: &Places, string: &[u8]) -> bool
     requires placed { IsPlaced strings.now places.now }
     ensures { result ≡ is_among string.now strings.now }
 {
-    match places.marked.get(&mark_of(string)) {
+    match places.marked.get(&fingerprint_of(string)) {
         Some(first) => strings.get(*first) == string || places.others.contains_key(string),
         None => false,
     }
@@ -120,13 +120,13 @@ fn has_string(strings: &Pieces, places: &Places, string: &[u8]) -> bool
 fn add_first(strings: &mut Pieces, places: &mut Places, string: &[u8]) -> Result<bool, OutOfMemory>
     requires placed { IsPlaced strings.old places.old }
     ensures ok { IfOk result (λ added. strings.new ≡ if added then strings.old ++ string.now ∷ [] else strings.old) }
-    ensures taken { IfOk result (λ added. added ≡ false → is_some (marked_at places.new.marked (mark_of string.now)) ≡ true) }
+    ensures taken { IfOk result (λ added. added ≡ false → is_some (marked_at places.new.marked (fingerprint_of string.now)) ≡ true) }
     ensures err { OnErr result (strings.new ≡ strings.old) }
     ensures placed { IsPlaced strings.new places.new }
 {
     let place = strings.len();
     strings.push(string)?;
-    let Ok(first) = add_mark(&mut places.marked, mark_of(string), place) else {
+    let Ok(first) = add_fingerprint(&mut places.marked, fingerprint_of(string), place) else {
         strings.truncate(place);
         return Err(AllocError);
     };
@@ -146,7 +146,7 @@ fn add_other(
 ) -> Result<(), OutOfMemory>
     requires placed { IsPlaced strings.old places.old }
     requires new { is_among string.now strings.old ≡ false }
-    requires taken { is_some (marked_at places.old.marked (mark_of string.now)) ≡ true }
+    requires taken { is_some (marked_at places.old.marked (fingerprint_of string.now)) ≡ true }
     ensures ok { OnOk result (strings.new ≡ strings.old ++ string.now ∷ []) }
     ensures err { OnErr result (strings.new ≡ strings.old) }
     ensures placed { IsPlaced strings.new places.new }
@@ -197,11 +197,11 @@ fn add_string(
 
 // Takes the place of the last string out of the index, if it is the first of this string.
 fn forget_last(places: &mut Places, string: &[u8], place: usize)
-    ensures { (front : List (List ℕ)) → place ≡ length front → IsPlaced (front ++ string.now ∷ []) places.old → IsPlaced front places.new }
+    ensures { (prefix : List (List ℕ)) → place ≡ length prefix → IsPlaced (prefix ++ string.now ∷ []) places.old → IsPlaced prefix places.new }
 {
-    let mark = mark_of(string);
-    if is_here(places.marked.get(&mark), place) {
-        places.marked.remove(&mark);
+    let fingerprint = fingerprint_of(string);
+    if is_here(places.marked.get(&fingerprint), place) {
+        places.marked.remove(&fingerprint);
     } else if is_here(places.others.get(string), place) {
         places.others.remove(string);
     }
@@ -211,7 +211,7 @@ fn forget_last(places: &mut Places, string: &[u8], place: usize)
 fn drop_last(strings: &mut Pieces, places: &mut Places)
     requires some { 0 < length strings.old }
     requires placed { IsPlaced strings.old places.old }
-    ensures front { strings.new ≡ take (length strings.old - 1) strings.old }
+    ensures prefix { strings.new ≡ take (length strings.old - 1) strings.old }
     ensures placed { IsPlaced strings.new places.new }
 {
     let place = strings.len() - 1;
@@ -223,7 +223,7 @@ fn drop_last(strings: &mut Pieces, places: &mut Places)
 fn cut_strings(strings: &mut Pieces, places: &mut Places, count: usize)
     requires within { count ≤ length strings.old }
     requires placed { IsPlaced strings.old places.old }
-    ensures front { strings.new ≡ take count strings.old }
+    ensures prefix { strings.new ≡ take count strings.old }
     ensures placed { IsPlaced strings.new places.new }
 {
     while strings.len() > count {

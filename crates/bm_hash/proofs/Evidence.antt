@@ -8,9 +8,9 @@ use Rattle.std.specs.Str.{bytes_eq}
 use Rattle.std.proofs.lemmas.Slice.Eq.{bytes_eq-Decides}
 use Rattle.std.proofs.lemmas.Bool.{false≢true}
 use Rattle.std.proofs.lemmas.Option.{slice_get-get_or}
-use Rattle.bm_hash.specs.Trails.{HaveApartDigests, IsClash}
+use Rattle.bm_hash.specs.Trails.{HaveApartDigests, IsCollision}
 use Rattle.spec_data.specs.Lists.{is_among}
-use Rattle.spec_data.specs.Messages.{clash}
+use Rattle.spec_data.specs.Messages.{collision_with}
 use Rattle.bm_hash.specs.Messages.{Message, message_of, evidence_after, evidence_of, noted, place_of}
 
 -- m stands in the list
@@ -55,8 +55,9 @@ not_false : (b : Bool) → not b ≡ false → b ≡ true
 not_false true h = refl
 not_false false h = cc
 
-clash_none : (hash : Message → Message) (before : List Message) (m e : Message) → clash hash before m ≡ None → Among before e → hash e ≡ hash m → e ≡ m
-clash_none hash before m e h a same =
+collision_none : (hash : Message → Message) (before : List Message) (m e : Message) → collision_with hash before m ≡ None → Among before e
+    → hash e ≡ hash m → e ≡ m
+collision_none hash before m e h a same =
     let test : Message → Bool = λ x. bytes_eq (hash x) (hash m) && not (bytes_eq x m) in
     let none = map_none (λ x. (x, m)) (find test before) h in
     let at = none_at test before e none a in
@@ -73,27 +74,32 @@ option_or_assoc None p q = refl
 option_or_assoc (Some x) p q = refl
 
 -- one more message
-pub evidence_push : (hash : Message → Message) (before ms : List Message) (m : Message) → evidence_after hash before (ms ++ m ∷ []) ≡ option_or (evidence_after hash before ms) (clash hash (before ++ ms) m)
-evidence_push hash before [] m = option_or_none (clash hash before m) ∙ ap (λ l. clash hash l m) (sym (append-nil before))
+pub evidence_push : (hash : Message → Message) (before ms : List Message) (m : Message) → evidence_after hash before (ms ++ m ∷ [])
+    ≡ option_or (evidence_after hash before ms) (collision_with hash (before ++ ms) m)
+evidence_push hash before [] m = option_or_none (collision_with hash before m) ∙ ap (λ l. collision_with hash l m) (sym (append-nil before))
 evidence_push hash before (x ∷ xs) m =
-    ap (option_or (clash hash before x)) (evidence_push hash (before ++ x ∷ []) xs m ∙ ap (λ l. option_or (evidence_after hash (before ++ x ∷ []) xs) (clash hash l m)) (append_assoc before (x ∷ []) xs))
-    ∙ option_or_assoc (clash hash before x) (evidence_after hash (before ++ x ∷ []) xs) (clash hash (before ++ x ∷ xs) m)
+    ap (option_or (collision_with hash before x))
+    (evidence_push hash (before ++ x ∷ []) xs m
+    ∙ ap (λ l. option_or (evidence_after hash (before ++ x ∷ []) xs) (collision_with hash l m)) (append_assoc before (x ∷ []) xs))
+    ∙ option_or_assoc (collision_with hash before x) (evidence_after hash (before ++ x ∷ []) xs) (collision_with hash (before ++ x ∷ xs) m)
 
 pub both_none : (o p : Option (Message × Message)) → option_or o p ≡ None → (o ≡ None) × (p ≡ None)
 both_none None p h = (refl, h)
 both_none (Some x) p h = cc
 
--- where there is no clash, a message and one before it with its digest are the same
-cross : (hash : Message → Message) (before ms : List Message) (a b : Message) → evidence_after hash before ms ≡ None → Among ms a → Among before b → hash b ≡ hash a → b ≡ a
+-- where there is no collision, a message and one before it with its digest are the same
+cross : (hash : Message → Message) (before ms : List Message) (a b : Message) → evidence_after hash before ms ≡ None → Among ms a
+    → Among before b → hash b ≡ hash a → b ≡ a
 cross hash before [] a b h am bm e = absurd am
 cross hash before (m ∷ ms) a b h am bm e =
     let parts = both_none _ _ h in
     ⊎_elim
-    (λ same. clash_none hash before m b parts.0 bm (e ∙ ap hash (sym same)) ∙ same)
+    (λ same. collision_none hash before m b parts.0 bm (e ∙ ap hash (sym same)) ∙ same)
     (λ t. cross hash (before ++ m ∷ []) ms a b parts.1 t (among_left before (m ∷ []) b bm) e)
     am
 
-pub apart : (hash : Message → Message) (before ms : List Message) (a b : Message) → evidence_after hash before ms ≡ None → Among ms a → Among ms b → hash a ≡ hash b → a ≡ b
+pub apart : (hash : Message → Message) (before ms : List Message) (a b : Message) → evidence_after hash before ms ≡ None → Among ms a
+    → Among ms b → hash a ≡ hash b → a ≡ b
 apart hash before [] a b h am bm e = absurd am
 apart hash before (m ∷ ms) a b h am bm e =
     let parts = both_none _ _ h in
@@ -151,39 +157,44 @@ find_and_none p q (x ∷ xs) h =
     ] h
 
 -- the message is new, with a new digest
-pub hash_fresh : (hash : Message → Message) (ms : List Message) (m : Message) → evidence_of hash ms ≡ None → message_of hash ms (hash m) ≡ None → (noted hash ms m ≡ ms ++ m ∷ []) × (evidence_of hash (ms ++ m ∷ []) ≡ None)
+pub hash_fresh : (hash : Message → Message) (ms : List Message) (m : Message) → evidence_of hash ms ≡ None → message_of hash ms (hash m)
+    ≡ None → (noted hash ms m ≡ ms ++ m ∷ []) × (evidence_of hash (ms ++ m ∷ []) ≡ None)
 hash_fresh hash ms m h none =
     let new : is_among m ms ≡ false = unnoted ms m (message_at hash ms m none) in
     let apart : find (λ x. bytes_eq (hash x) (hash m) && not (bytes_eq x m)) ms ≡ None = find_and_none (λ x. bytes_eq (hash x) (hash m)) (λ x. not (bytes_eq x m)) ms none in
     (rw (h, new) refl, evidence_push hash [] ms m ∙ rw (h, apart) refl)
 
 -- the message is there
-pub hash_known : (hash : Message → Message) (ms : List Message) (m : Message) → evidence_of hash ms ≡ None → message_of hash ms (hash m) ≡ Some m → noted hash ms m ≡ ms
+pub hash_known : (hash : Message → Message) (ms : List Message) (m : Message) → evidence_of hash ms ≡ None → message_of hash ms (hash m)
+    ≡ Some m → noted hash ms m ≡ ms
 hash_known hash ms m h found =
     let there : is_among m ms ≡ true = among_noted ms m (find_among (λ x. bytes_eq (hash x) (hash m)) ms m found).0 in
     rw (h, there) refl
 
 -- another message has its digest
-pub hash_clash : (hash : Message → Message) (ms : List Message) (m e : Message) → evidence_of hash ms ≡ None → message_of hash ms (hash m) ≡ Some e → bytes_eq e m ≡ false → (noted hash ms m ≡ ms ++ m ∷ []) × (evidence_of hash (ms ++ m ∷ []) ≡ Some (e, m))
-hash_clash hash ms m e h found other =
+pub hash_collision : (hash : Message → Message) (ms : List Message) (m e : Message) → evidence_of hash ms ≡ None
+    → message_of hash ms (hash m) ≡ Some e → bytes_eq e m ≡ false → (noted hash ms m ≡ ms ++ m ∷ []) × (evidence_of hash (ms ++ m ∷ []) ≡ Some (e, m))
+hash_collision hash ms m e h found other =
     let at = find_among (λ x. bytes_eq (hash x) (hash m)) ms e found in
     let digests : hash e ≡ hash m = (bytes_eq-Decides (hash e) (hash m)).0 at.1 in
     let new : is_among m ms ≡ false = unnoted ms m (λ there. let same = apart hash [] ms e m h at.0 there digests in let holds = (bytes_eq-Decides e m).1 same in cc) in
     let it : find (λ x. bytes_eq (hash x) (hash m) && not (bytes_eq x m)) ms ≡ Some e = find_and (λ x. bytes_eq (hash x) (hash m)) (λ x. not (bytes_eq x m)) ms e found (ap not other) in
     (rw (h, new) refl, evidence_push hash [] ms m ∙ rw (h, it) refl)
 
--- nothing is added after a clash
+-- nothing is added after a collision
 pub hash_after : (hash : Message → Message) (ms : List Message) (m : Message) → IsSome (evidence_of hash ms) → noted hash ms m ≡ ms
 hash_after hash ms m h = rw h refl
 
 -- ---- places
 
-option_map_some : (o : Option ℕ) (n : ℕ) (b : Bool) → option_map (λ k. k + 1) (option_or o (cond b (Some n) None)) ≡ option_or (option_map (λ k. k + 1) o) (cond b (Some (suc n)) None)
+option_map_some : (o : Option ℕ) (n : ℕ) (b : Bool) → option_map (λ k. k + 1) (option_or o (cond b (Some n) None))
+    ≡ option_or (option_map (λ k. k + 1) o) (cond b (Some (suc n)) None)
 option_map_some None n true = let e : n + 1 ≡ suc n = omega arith in ap Some e
 option_map_some None n false = refl
 option_map_some (Some k) n b = refl
 
-pub place_push : (hash : Message → Message) (ms : List Message) (m d : Message) → place_of hash (ms ++ m ∷ []) d ≡ option_or (place_of hash ms d) (cond (bytes_eq (hash m) d) (Some (length ms)) None)
+pub place_push : (hash : Message → Message) (ms : List Message) (m d : Message) → place_of hash (ms ++ m ∷ []) d
+    ≡ option_or (place_of hash ms d) (cond (bytes_eq (hash m) d) (Some (length ms)) None)
 place_push hash [] m d = refl
 place_push hash (x ∷ xs) m d =
     elim (bytes_eq (hash x) d) as (λ b. cond b (Some 0) (option_map (λ k. k + 1) (place_of hash (xs ++ m ∷ []) d)) ≡ option_or (cond b (Some 0) (option_map (λ k. k + 1) (place_of hash xs d))) (cond (bytes_eq (hash m) d) (Some (suc (length xs))) None)) [
@@ -191,7 +202,8 @@ place_push hash (x ∷ xs) m d =
       | false ↦ ap (option_map (λ k. k + 1)) (place_push hash xs m d) ∙ option_map_some (place_of hash xs d) (length xs) (bytes_eq (hash m) d)
     ]
 
-get_next : (x : Message) (xs : List Message) (o : Option ℕ) → option_and_then (slice_get (x ∷ xs)) (option_map (λ k. k + 1) o) ≡ option_and_then (slice_get xs) o
+get_next : (x : Message) (xs : List Message) (o : Option ℕ) → option_and_then (slice_get (x ∷ xs)) (option_map (λ k. k + 1) o)
+    ≡ option_and_then (slice_get xs) o
 get_next x xs None = refl
 get_next x xs (Some k) = let e : k + 1 ≡ suc k = omega arith in ap (slice_get (x ∷ xs)) e
 
@@ -217,7 +229,8 @@ get_place hash (x ∷ xs) d =
     ]
 
 -- the place of a message with the digest is within the list, and the first such message stands there
-pub place_at : (hash : Message → Message) (ms : List Message) (d : Message) (k : ℕ) → place_of hash ms d ≡ Some k → (k < length ms) × (message_of hash ms d ≡ Some (get_or ms k []))
+pub place_at : (hash : Message → Message) (ms : List Message) (d : Message) (k : ℕ) → place_of hash ms d ≡ Some k → (k < length ms)
+    × (message_of hash ms d ≡ Some (get_or ms k []))
 place_at hash ms d k h =
     let found : slice_get ms k ≡ message_of hash ms d = ap (option_and_then (slice_get ms)) (sym h) ∙ get_place hash ms d in
     let lt = place_within hash ms d k h in
@@ -244,7 +257,8 @@ both_true true false h = (refl, refl)
 both_true false b h = cc
 
 -- what an evidence shows
-shown : (hash : Message → Message) (before ms : List Message) (a b : Message) → evidence_after hash before ms ≡ Some (a, b) → Among (before ++ ms) a × Among ms b × (a ≢ b) × (hash a ≡ hash b)
+shown : (hash : Message → Message) (before ms : List Message) (a b : Message) → evidence_after hash before ms ≡ Some (a, b)
+    → Among (before ++ ms) a × Among ms b × (a ≢ b) × (hash a ≡ hash b)
 shown hash before [] a b h = cc
 shown hash before (m ∷ ms) a b h = ⊎_elim
     (λ here.
@@ -259,8 +273,8 @@ shown hash before (m ∷ ms) a b h = ⊎_elim
     (subst (λ l. Among l a) (append_assoc before (m ∷ []) ms) r.0, inr r.1, r.2, r.3))
     (first_of _ _ _ h)
 
-pub shown_clash : (hash : Message → Message) (ms : List Message) (p : Message × Message) → evidence_of hash ms ≡ Some p → IsClash hash ms p.0 p.1
-shown_clash hash ms p h = let s = shown hash [] ms p.0 p.1 h in record {
+pub shown_collision : (hash : Message → Message) (ms : List Message) (p : Message × Message) → evidence_of hash ms ≡ Some p → IsCollision hash ms p.0 p.1
+shown_collision hash ms p h = let s = shown hash [] ms p.0 p.1 h in record {
   has_earlier = contains_among ms p.0 s.0;
   has_later = contains_among ms p.1 s.1;
   different = s.2;
@@ -268,10 +282,12 @@ shown_clash hash ms p h = let s = shown hash [] ms p.0 p.1 h in record {
 }
 
 -- what the answer of `evidence` says
-pub evidence_shows : (hash : Message → Message) (ms : List Message) (r : Option (Bor Message × Bor Message)) → option_map (λ p. (p.0.now, p.1.now)) r ≡ evidence_of hash ms → IfSome r (λ p. IsClash hash ms p.0.now p.1.now)
+pub evidence_shows : (hash : Message → Message) (ms : List Message) (r : Option (Bor Message × Bor Message))
+    → option_map (λ p. (p.0.now, p.1.now)) r ≡ evidence_of hash ms → IfSome r (λ p. IsCollision hash ms p.0.now p.1.now)
 evidence_shows hash ms None h = tt
-evidence_shows hash ms (Some p) h = shown_clash hash ms (p.0.now, p.1.now) (sym h)
+evidence_shows hash ms (Some p) h = shown_collision hash ms (p.0.now, p.1.now) (sym h)
 
-pub no_evidence_shows : (hash : Message → Message) (ms : List Message) (r : Option (Bor Message × Bor Message)) → option_map (λ p. (p.0.now, p.1.now)) r ≡ evidence_of hash ms → IfNone r (HaveApartDigests hash ms)
+pub no_evidence_shows : (hash : Message → Message) (ms : List Message) (r : Option (Bor Message × Bor Message))
+    → option_map (λ p. (p.0.now, p.1.now)) r ≡ evidence_of hash ms → IfNone r (HaveApartDigests hash ms)
 no_evidence_shows hash ms None h = have_apart hash ms (sym h)
 no_evidence_shows hash ms (Some p) h = tt

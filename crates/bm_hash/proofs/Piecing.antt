@@ -129,14 +129,16 @@ piece_between bytes ends k s e is lt begin end =
       ap (λ a. slice_range bytes a e) begin ∙ ap (slice_range bytes (start_at 0 ends k)) ends_there ∙ sym (piece_at 0 bytes ends k lt),
     )
 
-pub pushed : (bytes ends more bytes_new ends_new : List ℕ) (n : ℕ) → AreEnds 0 ends (length bytes) → bytes_new ≡ bytes ++ more → ends_new ≡ ends ++ n ∷ [] → n ≡ length bytes_new
+pub pushed : (bytes ends more bytes_new ends_new : List ℕ) (n : ℕ) → AreEnds 0 ends (length bytes) → bytes_new ≡ bytes ++ more → ends_new
+    ≡ ends ++ n ∷ [] → n ≡ length bytes_new
     → AreEnds 0 ends_new (length bytes_new) × (pieces_from 0 bytes_new ends_new ≡ pieces_from 0 bytes ends ++ more ∷ [])
 pushed bytes ends more bytes_new ends_new n is b e at =
     let len : length bytes_new ≡ length bytes + length more = ap length b ∙ length-append bytes more in
     let end : ends_new ≡ ends ++ (length bytes + length more) ∷ [] = e ∙ ap (λ k. ends ++ k ∷ []) (at ∙ len) in
     (rw (end, len) (are_ends-push 0 ends (length bytes) (length more) is), rw (end, b) (pieces-push 0 bytes ends more is))
 
-pub cut : (bytes ends bytes_new ends_new : List ℕ) (count end : ℕ) → AreEnds 0 ends (length bytes) → end ≡ start_at 0 ends count → bytes_new ≡ take end bytes → ends_new ≡ take count ends
+pub cut : (bytes ends bytes_new ends_new : List ℕ) (count end : ℕ) → AreEnds 0 ends (length bytes) → end ≡ start_at 0 ends count → bytes_new
+    ≡ take end bytes → ends_new ≡ take count ends
     → AreEnds 0 ends_new (length bytes_new) × (pieces_from 0 bytes_new ends_new ≡ take count (pieces_from 0 bytes ends))
 cut bytes ends bytes_new ends_new count end is at b e =
     let high : end ≤ length bytes = (let w = start_within 0 ends (length bytes) count is in omega (arith, w, at)) in

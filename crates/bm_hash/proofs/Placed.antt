@@ -5,7 +5,8 @@ use Rattle.indexmap.specs.IndexMap.{IndexMap, IsUnchanged}
 use Rattle.bm_hash.specs.declared.key.Key.{Key}
 use Rattle.bm_hash.specs.Keys.{place_in, Places}
 
-pub placed : {S : Type 0} (old new : IndexMap Key ℕ S) (d : List ℕ) (n : ℕ) → Places old new d n → (q : List ℕ) → place_in new q ≡ cond (bytes_eq d q) (Some n) (place_in old q)
+pub placed : {S : Type 0} (old new : IndexMap Key ℕ S) (d : List ℕ) (n : ℕ) → Places old new d n → (q : List ℕ) → place_in new q
+    ≡ cond (bytes_eq d q) (Some n) (place_in old q)
 placed old new d n updates q = updates.0 (record { digest = q })
 
 -- the same behind an index of the same entries

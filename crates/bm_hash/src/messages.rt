@@ -7,10 +7,10 @@ ghost use Rattle.indexmap.specs.IndexMap.{IsUnchanged};
 ghost use Rattle.bm_hash.specs.Keys.{place_in, Places};
 ghost use Rattle.bm_hash.specs.declared.messages.TrailError.TheVariants.{Collided, Memory};
 ghost use Rattle.bm_hash.specs.Messages.{evidence_of, message_of, IsAt};
-ghost use Rattle.bm_hash.specs.Trails.{Hashed, Hashes, IsClash, HaveApartDigests};
+ghost use Rattle.bm_hash.specs.Trails.{Hashed, Hashes, IsCollision, HaveApartDigests};
 
+use crate::cache::{Cache, cache_key};
 use crate::hashing::Hash32;
-use crate::hints::{Hints, hint_of};
 use crate::key::Key;
 use crate::pieces::Pieces;
 use indexmap::IndexMap;
@@ -26,7 +26,7 @@ const ROOM: usize = 1 << 21;
 pub enum TrailError {
     /// Two different messages have one digest.
     Collided,
-    /// Want of memory.
+    /// Out of memory.
     Memory,
 }
 
@@ -52,7 +52,7 @@ pub struct Trail<H: Hash32> {
     messages: Pieces,
     index: IndexMap<Key, usize>,
     collision: Option<usize>,
-    hints: Hints,
+    cache: Cache,
 }
 
 impl<H: Hash32> Model for Trail<H> {
@@ -73,7 +73,7 @@ impl<H: Hash32 + Drop> Drop for Trail<H> {
             messages: _,
             index: _,
             collision: _,
-            hints: _,
+            cache: _,
         } = self;
     }
 }
@@ -143,12 +143,12 @@ fn digest_at(index: &IndexMap<Key, usize>, place: usize) -> Option<[u8; 32]>
 fn digest_ahead(
     messages: &Pieces,
     index: &IndexMap<Key, usize>,
-    hints: &mut Hints,
+    cache: &mut Cache,
     message: &[u8],
 ) -> Option<[u8; 32]>
     ensures { IfSome result (λ d. IsAt messages.now (place_in index.now d) message.now) }
 {
-    let place = hints.find_ahead(messages, message)?;
+    let place = cache.find_ahead(messages, message)?;
     digest_at(index, place)
 }
 
@@ -156,13 +156,13 @@ fn digest_ahead(
 fn known_digest(
     messages: &Pieces,
     index: &IndexMap<Key, usize>,
-    hints: &mut Hints,
-    mark: u64,
+    cache: &mut Cache,
+    fingerprint: u64,
     message: &[u8],
 ) -> Option<[u8; 32]>
     ensures { IfSome result (λ d. IsAt messages.now (place_in index.now d) message.now) }
 {
-    let place = hints.find(messages, mark, message)?;
+    let place = cache.find(messages, fingerprint, message)?;
     digest_at(index, place)
 }
 
@@ -170,12 +170,12 @@ fn known_digest(
 fn noted_digest(
     messages: &Pieces,
     index: &IndexMap<Key, usize>,
-    hints: &Hints,
+    cache: &Cache,
     message: &[u8],
 ) -> Option<[u8; 32]>
     ensures { IfSome result (λ d. IsAt messages.now (place_in index.now d) message.now) }
 {
-    let place = hints.place_of(messages, hint_of(message), message)?;
+    let place = cache.place_of(messages, cache_key(message), message)?;
     digest_at(index, place)
 }
 
@@ -189,7 +189,7 @@ impl<H: Hash32 + Drop> Trail<H> {
             messages: Pieces::new(alloc),
             index: IndexMap::new(alloc),
             collision: None,
-            hints: Hints::new(alloc),
+            cache: Cache::new(alloc),
         }
     }
 
@@ -200,8 +200,8 @@ impl<H: Hash32 + Drop> Trail<H> {
         &self.hasher
     }
 
-    // The digest of a message of this mark that stands on a trail on which nothing clashed. To hash it once more would change nothing.
-    fn recall(&mut self, mark: u64, message: &[u8]) -> Option<[u8; 32]>
+    // The digest of a message of this mark that stands on a trail on which nothing collided. To hash it once more would change nothing.
+    fn recall(&mut self, fingerprint: u64, message: &[u8]) -> Option<[u8; 32]>
         ensures same { self.new ≡ self.old }
         ensures digest { IfSome result (λ d. d ≡ H.digest_of self.old.hasher message.now) }
         ensures trail { IfSome result (λ d. Hashed (H.digest_of self.old.hasher) self.old.messages self.old.messages (message.now ∷ [])) }
@@ -209,7 +209,13 @@ impl<H: Hash32 + Drop> Trail<H> {
         if self.collision.is_some() {
             return None;
         }
-        known_digest(&self.messages, &self.index, &mut self.hints, mark, message)
+        known_digest(
+            &self.messages,
+            &self.index,
+            &mut self.cache,
+            fingerprint,
+            message,
+        )
     }
 
     // The same for a message that stands behind one that was found: what was hashed in turn is often asked for in turn.
@@ -221,21 +227,21 @@ impl<H: Hash32 + Drop> Trail<H> {
         if self.collision.is_some() {
             return None;
         }
-        digest_ahead(&self.messages, &self.index, &mut self.hints, message)
+        digest_ahead(&self.messages, &self.index, &mut self.cache, message)
     }
 
-    // The digest of a message that stands on a trail on which nothing clashed.
+    // The digest of a message that stands on a trail on which nothing collided.
     fn noted(&self, message: &[u8]) -> Option<[u8; 32]>
         ensures { IfSome result (λ d. d ≡ H.digest_of self.now.hasher message.now) }
     {
         if self.collision.is_some() {
             return None;
         }
-        noted_digest(&self.messages, &self.index, &self.hints, message)
+        noted_digest(&self.messages, &self.index, &self.cache, message)
     }
 
     // The digest of a message of this mark as the hash function gives it; the message is then on the trail.
-    fn hash_anew(&mut self, mark: u64, message: &[u8]) -> Result<[u8; 32], TrailError>
+    fn hash_anew(&mut self, fingerprint: u64, message: &[u8]) -> Result<[u8; 32], TrailError>
         ensures digest { IfOk result (λ d. d ≡ H.digest_of self.old.hasher message.now) }
         ensures trail { Hashes H.digest_of self.old self.new (message.now ∷ []) result }
     {
@@ -246,7 +252,7 @@ impl<H: Hash32 + Drop> Trail<H> {
         match self.index.get(&Key { digest }).copied() {
             Some(place) => {
                 if self.messages.get(place) == message {
-                    self.hints.renew(mark, message, place);
+                    self.cache.renew(fingerprint, message, place);
                     return Ok(digest);
                 }
                 self.messages.push(message)?;
@@ -255,7 +261,7 @@ impl<H: Hash32 + Drop> Trail<H> {
             }
             None => {
                 add_message(&mut self.messages, &mut self.index, digest, message)?;
-                self.hints.note_last(mark, message, &self.messages);
+                self.cache.note_last(fingerprint, message, &self.messages);
                 Ok(digest)
             }
         }
@@ -269,10 +275,10 @@ impl<H: Hash32 + Drop> Trail<H> {
         if let Some(digest) = self.recall_ahead(message) {
             return Ok(digest);
         }
-        let mark = hint_of(message);
-        match self.recall(mark, message) {
+        let fingerprint = cache_key(message);
+        match self.recall(fingerprint, message) {
             Some(digest) => Ok(digest),
-            None => self.hash_anew(mark, message),
+            None => self.hash_anew(fingerprint, message),
         }
     }
 
@@ -288,7 +294,7 @@ impl<H: Hash32 + Drop> Trail<H> {
     }
 
     // The messages at the places that are kept.
-    fn clash_pair(&self) -> Option<(&[u8], &[u8])>
+    fn collision_pair(&self) -> Option<(&[u8], &[u8])>
         ensures { option_map (λ p. (p.0.now, p.1.now)) result ≡ evidence_of (H.digest_of self.now.hasher) self.now.messages }
     {
         let place = self.collision?;
@@ -300,16 +306,16 @@ impl<H: Hash32 + Drop> Trail<H> {
     pub fn has_collided(&self) -> bool
         ensures { result ≡ is_some (evidence_of (H.digest_of self.now.hasher) self.now.messages) }
     {
-        self.clash_pair().is_some()
+        self.collision_pair().is_some()
     }
 
     /// Two different messages with one digest, the earlier one first.
     pub fn evidence(&self) -> Option<(&[u8], &[u8])>
         ensures pair { option_map (λ p. (p.0.now, p.1.now)) result ≡ evidence_of (H.digest_of self.now.hasher) self.now.messages }
-        ensures clash { IfSome result (λ p. IsClash (H.digest_of self.now.hasher) self.now.messages p.0.now p.1.now) }
+        ensures collision_with { IfSome result (λ p. IsCollision (H.digest_of self.now.hasher) self.now.messages p.0.now p.1.now) }
         ensures apart { IfNone result (HaveApartDigests (H.digest_of self.now.hasher) self.now.messages) }
     {
-        self.clash_pair()
+        self.collision_pair()
     }
 
     /// The message with this digest.

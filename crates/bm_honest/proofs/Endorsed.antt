@@ -48,8 +48,10 @@ module _ (hash : List ℕ → List ℕ) (contract : ℕ) (advert : Advert) (part
       by_test : (a b : Bool) → bytes_eq p party ≡ b
           → pairs_of_party party (map (person_need digest) (filter (λ q. not (is_among q asked)) ps))
           ≡ person_pairs asked digest party ps (map key ps)
-          → pairs_of_party party (map (person_need digest) (cond (not a) (p ∷ filter (λ q. not (is_among q asked)) ps) (filter (λ q. not (is_among q asked)) ps)))
-          ≡ cond (not a && bytes_eq p party) ((key p, digest) ∷ person_pairs asked digest party ps (map key ps)) (person_pairs asked digest party ps (map key ps))
+          → pairs_of_party party (map (person_need digest)
+          (cond (not a) (p ∷ filter (λ q. not (is_among q asked)) ps) (filter (λ q. not (is_among q asked)) ps)))
+          ≡ cond (not a && bytes_eq p party) ((key p, digest) ∷ person_pairs asked digest party ps (map key ps))
+          (person_pairs asked digest party ps (map key ps))
       by_test true b e ih = ih
       by_test false true e ih = rw e (ap (λ rest. (key p, digest) ∷ rest) ih)
       by_test false false e ih = rw e ih

@@ -96,7 +96,8 @@ module _ (hash : List ℕ → List ℕ) (book : List Pair) (contract : ℕ) (adv
       by_tests : (a b : Bool) → signed_by digest p ≡ b
           → gate_of (first_unmet book (map (person_need digest) (filter (λ party. not (is_among party asked)) ps)))
           ≡ gate_at path (unsigned_person book asked digest ps (map key ps))
-          → gate_of (first_unmet book (map (person_need digest) (cond (not a) (p ∷ filter (λ party. not (is_among party asked)) ps) (filter (λ party. not (is_among party asked)) ps))))
+          → gate_of (first_unmet book (map (person_need digest)
+          (cond (not a) (p ∷ filter (λ party. not (is_among party asked)) ps) (filter (λ party. not (is_among party asked)) ps))))
           ≡ gate_at path (cond (a || signed_by digest p) (unsigned_person book asked digest ps (map key ps)) (Some p))
       by_tests true b e ih = ih
       by_tests false true e ih = rw e ih
@@ -122,9 +123,13 @@ module _ (hash : List ℕ → List ℕ) (book : List Pair) (contract : ℕ) (adv
   branch_gate b [] = refl
   branch_gate b (digest ∷ digests) =
       first_gate book (branch_needs hash contract advert path b digest) (put_needs hash advert path (puts_of (core b)) digests)
-      ∙ rw (same_person b digest (participants advert) (map key (participants advert))) (ap (λ g. gate_or g (gate_of (first_unmet book (put_needs hash advert path (puts_of (core b)) digests)))) (person_gate (asks b) digest (participants advert)))
-      ∙ ap (gate_or (gate_at path (unsigned_person book (asks_once b) digest (participants advert) (map key (participants advert))))) (owner_gate (puts_of (core b)) digests)
-      ∙ sym (gate_at-or path (unsigned_person book (asks_once b) digest (participants advert) (map key (participants advert))) (unsigned_owner hash book advert.pre (puts_of (core b)) digests))
+      ∙ rw (same_person b digest (participants advert) (map key (participants advert)))
+      (ap (λ g. gate_or g (gate_of (first_unmet book (put_needs hash advert path (puts_of (core b)) digests))))
+      (person_gate (asks b) digest (participants advert)))
+      ∙ ap (gate_or (gate_at path (unsigned_person book (asks_once b) digest (participants advert) (map key (participants advert)))))
+      (owner_gate (puts_of (core b)) digests)
+      ∙ sym (gate_at-or path (unsigned_person book (asks_once b) digest (participants advert) (map key (participants advert)))
+      (unsigned_owner hash book advert.pre (puts_of (core b)) digests))
 
   -- the gate of a path, by what is seen of the branch there, and by the plan's keys
   path_gate : (made : Prepared) → gate_of (first_unmet book (path_needs hash contract advert path made))

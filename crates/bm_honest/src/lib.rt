@@ -1,5 +1,5 @@
-//! The gate before an honest party signs the initial transaction of a contract: it opens once every signature is there that
-//! the contract may need later.
+//! The gate before an honest party's signature on the initial transaction. It says which endorsement is the first that
+//! is missing, since whoever signs before all are there may lose its deposit.
 #![tactic(auto)]
 
 mod branches;

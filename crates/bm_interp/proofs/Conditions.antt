@@ -17,7 +17,8 @@ and_comm false false = refl
 
 all_hold-push : (xs : List Bool) (x : Bool) → all_hold (xs ++ x ∷ []) ≡ x && all_hold xs
 all_hold-push [] x = refl
-all_hold-push (y ∷ ys) x = ap (λ b. y && b) (all_hold-push ys x) ∙ sym (and_assoc y x (all_hold ys)) ∙ ap (λ b. b && all_hold ys) (and_comm y x) ∙ and_assoc x y (all_hold ys)
+all_hold-push (y ∷ ys) x =
+    ap (λ b. y && b) (all_hold-push ys x) ∙ sym (and_assoc y x (all_hold ys)) ∙ ap (λ b. b && all_hold ys) (and_comm y x) ∙ and_assoc x y (all_hold ys)
 
 pub all_hold-reverse : (xs : List Bool) → list_all (λ c. c) xs ≡ all_hold (reverse xs)
 all_hold-reverse [] = refl

@@ -20,7 +20,7 @@ resume hash valid (Inside items others outer) (c ∷ cs) s =
 resume hash valid Unmatched cs s = None
 
 -- going on, with these conditions and stacks, is what the front of the operations does
-pub record Does (hash : Item → Item) (valid : Item → Item → Bool) (front : Open → Open) (cs : List Bool)
+pub record Does (hash : Item → Item) (valid : Item → Item → Bool) (prefix : Open → Open) (cs : List Bool)
     (s : Stacks) (goes_on : Bool) (cs' : List Bool) (s' : Stacks) : Type 0 where
-  pub going : goes_on ≡ true → (o : Open) → resume hash valid (front o) cs s ≡ resume hash valid o cs' s'
-  pub failing : goes_on ≡ false → (o : Open) → resume hash valid (front o) cs s ≡ None
+  pub going : goes_on ≡ true → (o : Open) → resume hash valid (prefix o) cs s ≡ resume hash valid o cs' s'
+  pub failing : goes_on ≡ false → (o : Open) → resume hash valid (prefix o) cs s ≡ None

@@ -1,4 +1,5 @@
-//! The interpreter of scripts: a flat run of the operations with a stack of conditions.
+//! Runs Bitcoin scripts: an operation at a time on two stacks, with a stack of conditions for IF and ELSE. It is proved
+//! to give the meaning that `spec_bitcoin` defines, for every signature oracle.
 #![tactic(auto)]
 
 mod effects;

@@ -30,12 +30,12 @@ abbrev pub answer_of_file : ℕ → Option (List ℕ) → Result (List ℕ) Read
 answer_of_file limit None = Err Failed
 answer_of_file limit (Some bytes) = within limit bytes
 
--- what a read of this name answers, unless memory is wanting
+-- what a read of this name answers, unless memory has run out
 abbrev pub answer_of : Told → List ℕ → ℕ → Result (List ℕ) ReadError
 answer_of told name limit =
     if is_number told.failing (length told.asked) then Err Failed else answer_of_file limit (look_up name told.files)
 
--- the result is this answer, or says that memory is wanting
+-- the result is this answer, or says that memory has run out
 abbrev pub IsUnlessMemory : {X : Type 0} → Result X ReadError → Result X ReadError → Type 0
 IsUnlessMemory (Ok value) answer = Ok value ≡ answer
 IsUnlessMemory (Err Failed) answer = Err Failed ≡ answer
@@ -44,7 +44,7 @@ IsUnlessMemory (Err Memory) answer = Unit {0}
 
 -- ---- what a read leaves
 
--- what is told after a read: its name was asked, unless memory was wanting
+-- what is told after a read: its name was asked, unless memory ran out
 abbrev pub told_after : {X : Type 0} → Told → List ℕ → Result X ReadError → Told
 told_after told name (Ok value) = record told { asked = told.asked ++ name ∷ [] }
 told_after told name (Err Failed) = record told { asked = told.asked ++ name ∷ [] }

@@ -4,7 +4,7 @@ use Rattle.std.specs.Prelude.{Result, Ok, Err}
 use Rattle.std.specs.List.{concat}
 use Rattle.bm_io.specs.Counts.{raised}
 
--- what a write adds to the pieces that were taken: its piece, or on a fault a front of it
+-- what a write adds to the pieces that were taken: its piece, or on a fault a prefix of it
 abbrev pub Writes : {X E : Type 0} → List (List ℕ) → List (List ℕ) → List ℕ → Result X E → Type 0
 Writes old new piece (Ok value) = new ≡ old ++ piece ∷ []
 Writes old new piece (Err error) = (count : ℕ) × (new ≡ old ++ take count piece ∷ [])

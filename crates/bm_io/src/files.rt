@@ -13,7 +13,7 @@ pub enum ReadError {
     Failed,
     /// It has more bytes than were asked for.
     TooLong,
-    /// Want of memory.
+    /// Out of memory.
     Memory,
 }
 

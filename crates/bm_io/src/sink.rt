@@ -10,13 +10,13 @@ pub struct WriteFault;
 
 /// What takes bytes.
 pub trait Sink {
-    /// The pieces that it took, one for each write: all of it, or a front where the write failed.
+    /// The pieces that it took, one for each write: all of it, or a prefix where the write failed.
     ghost pieces: { Self → List (List ℕ) };
 
     /// How often a write has failed.
     ghost faults: { Self → ℕ };
 
-    /// Writes the whole piece, or fails after a front of it. It takes no memory.
+    /// Writes the whole piece, or fails after a prefix of it. It takes no memory.
     fn write_all(&mut self, piece: &[u8]) -> Result<(), WriteFault>
         ensures cause { HasCause (faults self.old) (faults self.new) result }
         ensures writes { Writes (pieces self.old) (pieces self.new) piece.now result };

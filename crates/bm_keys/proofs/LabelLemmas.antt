@@ -35,7 +35,12 @@ no_kind text no_deposit no_branch (Branch c path p) h = no_branch (decimal c ++ 
 
 pub deposit_read : (text party : List ℕ) → party ≡ text → (0 < length text) × (length text ≤ 32) → IsTextOf (68 ∷ (58 ∷ text)) (Deposit party)
 deposit_read text party e h =
-    record { fits = tt; named = subst IsParty (sym e) (record { some = h.0; few = h.1 }); same = ap (λ (l : List ℕ). 68 ∷ (58 ∷ l)) (sym e) ∙ sym (deposit_is party) }
+    record {
+      fits = tt;
+      named = subst IsParty (sym e) (record { some = h.0; few = h.1 });
+      same = ap (λ (l : List ℕ). 68 ∷ (58 ∷ l)) (sym e)
+          ∙ sym (deposit_is party);
+    }
 
 pub no_deposit : (text : List ℕ) → ((0 < length text) × (length text ≤ 32) → ⊥) → NoLabel (68 ∷ (58 ∷ text))
 no_deposit text none (Deposit p) h =
@@ -46,13 +51,20 @@ no_deposit text none (Branch c path p) h = kinds_apart text (decimal c ++ (58 �
 
 -- ---- branches
 
-pub branch_read : (text rest party name : List ℕ) (n : ℕ) (path : List PathStep) → IsContractAt text n rest → IsPathAt rest path party → name ≡ party → (0 < length party) × (length party ≤ 32) → IsTextOf (66 ∷ (58 ∷ text)) (Branch n path name)
+pub branch_read : (text rest party name : List ℕ) (n : ℕ) (path : List PathStep) → IsContractAt text n rest → IsPathAt rest path party
+    → name ≡ party → (0 < length party) × (length party ≤ 32) → IsTextOf (66 ∷ (58 ∷ text)) (Branch n path name)
 branch_read text rest party name n path h k e some =
     let whole : text ≡ decimal n ++ (58 ∷ (114 ∷ steps_before path (58 ∷ name))) = h.same ∙ ap (λ (l : List ℕ). decimal n ++ (58 ∷ (114 ∷ l))) (k.same ∙ ap (λ (p : List ℕ). steps_before path (58 ∷ p)) (sym e)) in
-    record { fits = (h.fits, k.fits); named = subst IsParty (sym e) (record { some = some.0; few = some.1 }); same = ap (λ (l : List ℕ). 66 ∷ (58 ∷ l)) whole ∙ sym (branch_is n path name) }
+    record {
+      fits = (h.fits, k.fits);
+      named = subst IsParty (sym e) (record { some = some.0; few = some.1 });
+      same = ap
+          (λ (l : List ℕ). 66 ∷ (58 ∷ l)) whole ∙ sym (branch_is n path name);
+    }
 
 -- the pieces of the label of a branch
-contract_of : (text p : List ℕ) (n : ℕ) (path : List PathStep) → IsTextOf (66 ∷ (58 ∷ text)) (Branch n path p) → IsContractAt text n (steps_before path (58 ∷ p))
+contract_of : (text p : List ℕ) (n : ℕ) (path : List PathStep) → IsTextOf (66 ∷ (58 ∷ text)) (Branch n path p)
+    → IsContractAt text n (steps_before path (58 ∷ p))
 contract_of text p n path h = record { fits = h.fits.0; same = behind_both 66 text _ (h.same ∙ branch_is n path p) }
 
 no_deposit_here : (text p : List ℕ) → IsTextOf (66 ∷ (58 ∷ text)) (Deposit p) → ⊥
@@ -67,7 +79,8 @@ no_branch_path text rest n h none (Deposit p) k = no_deposit_here text p k
 no_branch_path text rest n h none (Branch m path p) k =
     none path p (record { fits = k.fits.1; same = one_contract text rest (steps_before path (58 ∷ p)) n m h (contract_of text p m path k) })
 
-pub no_branch_party : (text rest party : List ℕ) (n : ℕ) (path : List PathStep) → IsContractAt text n rest → IsPathAt rest path party → ((0 < length party) × (length party ≤ 32) → ⊥) → NoLabel (66 ∷ (58 ∷ text))
+pub no_branch_party : (text rest party : List ℕ) (n : ℕ) (path : List PathStep) → IsContractAt text n rest → IsPathAt rest path party
+    → ((0 < length party) × (length party ≤ 32) → ⊥) → NoLabel (66 ∷ (58 ∷ text))
 no_branch_party text rest party n path h k none (Deposit p) l = no_deposit_here text p l
 no_branch_party text rest party n path h k none (Branch m other p) l =
     let left = one_contract text rest (steps_before other (58 ∷ p)) n m h (contract_of text p m other l) in

@@ -31,7 +31,8 @@ unfolding Plain
 plain-zero b [] e h = (rw e refl, omega arith, λ s. refl)
 plain-zero b (c ∷ bytes) e h = absurd (omega (arith, h))
 
-plain-first : (t : Bool) (b : ℕ) (bytes : List ℕ) → (b == 48) ≡ t → (if t then length bytes == 0 else is_digit b && list_all is_digit bytes) ≡ true → Plain (b ∷ bytes)
+plain-first : (t : Bool) (b : ℕ) (bytes : List ℕ) → (b == 48) ≡ t → (if t then length bytes == 0 else is_digit b && list_all is_digit bytes)
+    ≡ true → Plain (b ∷ bytes)
 unfolding Plain
 plain-first true b bytes e k = plain-zero b bytes (grind (arith, nat_tests)) (grind (arith, nat_tests))
 plain-first false b bytes e k = (k, omega arith, λ s. grind (arith, nat_tests))
@@ -94,8 +95,8 @@ drop-length [] x = refl
 drop-length (d ∷ ds) x = drop-length ds x
 
 -- the digits of a number at the front, and what stands behind them
-pub front : (text rest : List ℕ) (n : ℕ) → IsNumberAt text n rest → (take (digit_count text) text ≡ decimal n) × (drop (digit_count text) text ≡ rest)
-front text rest n h =
+pub prefix : (text rest : List ℕ) (n : ℕ) → IsNumberAt text n rest → (take (digit_count text) text ≡ decimal n) × (drop (digit_count text) text ≡ rest)
+prefix text rest n h =
     let count : digit_count (decimal n ++ rest) ≡ length (decimal n) = count-append (decimal n) rest (decimal_digits n h.fits) h.ends in
     let taken : take (digit_count (decimal n ++ rest)) (decimal n ++ rest) ≡ decimal n = ap (λ k. take k (decimal n ++ rest)) count ∙ take-length (decimal n) rest in
     let left : drop (digit_count (decimal n ++ rest)) (decimal n ++ rest) ≡ rest = ap (λ k. drop k (decimal n ++ rest)) count ∙ drop-length (decimal n) rest in
@@ -105,7 +106,8 @@ front text rest n h =
 pub one_number : (text r s : List ℕ) (m n : ℕ) → IsNumberAt text m r → IsNumberAt text n s → (m ≡ n) × (r ≡ s)
 one_number text r s m n h k = two_decimals m n r s h.fits k.fits h.ends k.ends (sym h.same ∙ k.same)
 
-pub number_is : (text digits rest : List ℕ) (n : ℕ) → digits ≡ take (digit_count text) text → rest ≡ drop (digit_count text) text → number_below (2 ^ 32) digits ≡ Some n → IsNumberAt text n rest
+pub number_is : (text digits rest : List ℕ) (n : ℕ) → digits ≡ take (digit_count text) text → rest ≡ drop (digit_count text) text
+    → number_below (2 ^ 32) digits ≡ Some n → IsNumberAt text n rest
 number_is text digits rest n d e h =
     let w = number-some digits n h in
     record {
@@ -119,5 +121,5 @@ some_none n e = cc
 
 pub no_number : (text digits : List ℕ) → digits ≡ take (digit_count text) text → number_below (2 ^ 32) digits ≡ None → NoNumberAt text
 no_number text digits d h n rest k =
-    let w : number_below (2 ^ 32) digits ≡ Some n = ap (number_below (2 ^ 32)) (d ∙ (front text rest n k).0) ∙ number-decimal n k.fits in
+    let w : number_below (2 ^ 32) digits ≡ Some n = ap (number_below (2 ^ 32)) (d ∙ (prefix text rest n k).0) ∙ number-decimal n k.fits in
     some_none n (sym w ∙ h)

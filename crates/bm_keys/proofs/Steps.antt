@@ -18,7 +18,8 @@ of_mark (To i) n e = cc
 of_mark (Into k) n e = cc
 
 -- the step that a mark and a number give
-step_of-some : (s t : Bool) (m n : ℕ) (step : PathStep) → (m == 46) ≡ s → (m == 47) ≡ t → n < 2 ^ 32 → (if s then Some (To n) else if t then Some (Into n) else None) ≡ Some step → IsStep step × (step_text step ≡ m ∷ decimal n)
+step_of-some : (s t : Bool) (m n : ℕ) (step : PathStep) → (m == 46) ≡ s → (m == 47) ≡ t → n < 2 ^ 32
+    → (if s then Some (To n) else if t then Some (Into n) else None) ≡ Some step → IsStep step × (step_text step ≡ m ∷ decimal n)
 step_of-some true t m n step e f h k =
     let is : To n ≡ step = cc in
     let same : m ≡ 46 = grind (arith, nat_tests) in
@@ -29,13 +30,15 @@ step_of-some false true m n step e f h k =
     (subst IsStep is h, sym (ap step_text is) ∙ ap (λ b. b ∷ decimal n) (sym same))
 step_of-some false false m n step e f h k = cc
 
-pub step_found : (text after rest : List ℕ) (m n : ℕ) (step : PathStep) → text ≡ m ∷ after → IsNumberAt after n rest → step_of m n ≡ Some step → IsStepAt text step rest
+pub step_found : (text after rest : List ℕ) (m n : ℕ) (step : PathStep) → text ≡ m ∷ after → IsNumberAt after n rest → step_of m n
+    ≡ Some step → IsStepAt text step rest
 step_found text after rest m n step e h k =
     let s = step_of-some (m == 46) (m == 47) m n step refl refl h.fits k in
     record { fits = s.0; same = e ∙ ap (λ l. m ∷ l) h.same ∙ ap (λ l. l ++ rest) (sym s.1); ends = h.ends }
 
 -- the number behind the mark
-behind_mark : (text after rest : List ℕ) (m : ℕ) (step : PathStep) → text ≡ m ∷ after → IsStepAt text step rest → (m ≡ mark step) × IsNumberAt after (number step) rest
+behind_mark : (text after rest : List ℕ) (m : ℕ) (step : PathStep) → text ≡ m ∷ after → IsStepAt text step rest → (m ≡ mark step)
+    × IsNumberAt after (number step) rest
 behind_mark text after rest m step e h =
     let whole : m ∷ after ≡ mark step ∷ (decimal (number step) ++ rest) = sym e ∙ h.same ∙ step_is step rest in (
       heads m (mark step) after (decimal (number step) ++ rest) whole,
@@ -61,9 +64,11 @@ HasEnded (s ∷ []) rest = Ends rest
 HasEnded (s ∷ (t ∷ steps)) rest = HasEnded (t ∷ steps) rest
 
 -- a step at the front of steps that are read
-first_at : (s : PathStep) (steps : List PathStep) (rest : List ℕ) → IsStep s → HasEnded (s ∷ steps) rest → IsStepAt (steps_before (s ∷ steps) rest) s (steps_before steps rest)
+first_at : (s : PathStep) (steps : List PathStep) (rest : List ℕ) → IsStep s → HasEnded (s ∷ steps) rest
+    → IsStepAt (steps_before (s ∷ steps) rest) s (steps_before steps rest)
 first_at s [] rest fits ended = record { fits = fits; same = steps-cons s [] rest; ends = ended }
-first_at s (t ∷ steps) rest fits ended = record { fits = fits; same = steps-cons s (t ∷ steps) rest; ends = subst Ends (sym (steps-cons t steps rest)) (step_ends t (steps_before steps rest)) }
+first_at s (t ∷ steps) rest fits ended =
+    record { fits = fits; same = steps-cons s (t ∷ steps) rest; ends = subst Ends (sym (steps-cons t steps rest)) (step_ends t (steps_before steps rest)) }
 
 path_first : (s : PathStep) (path : List PathStep) (y : List ℕ) → IsStep s → IsStepAt (steps_before (s ∷ path) (58 ∷ y)) s (steps_before path (58 ∷ y))
 path_first s path y fits = record { fits = fits; same = steps-cons s path (58 ∷ y); ends = path_ends path y }
@@ -73,7 +78,8 @@ ended_behind s [] rest h = tt
 ended_behind s (t ∷ steps) rest h = h
 
 -- what is left after some steps is the rest of the path
-left_path : (steps path : List PathStep) (rest y : List ℕ) → AllByRecursion IsStep steps → HasEnded steps rest → AllByRecursion IsStep path → steps_before steps rest ≡ steps_before path (58 ∷ y)
+left_path : (steps path : List PathStep) (rest y : List ℕ) → AllByRecursion IsStep steps → HasEnded steps rest → AllByRecursion IsStep path
+    → steps_before steps rest ≡ steps_before path (58 ∷ y)
     → NoPathAt rest → ⊥
 left_path [] path rest y all ended fits e none = none path y (record { fits = fits; same = e })
 left_path (s ∷ steps) [] rest y all ended fits e none = colon_no_step s y (steps_before steps rest) (sym e ∙ steps-cons s steps rest)
@@ -107,10 +113,16 @@ before_push [] s x = steps-cons s [] x
 before_push (t ∷ steps) s x =
     steps-cons t (steps ++ s ∷ []) x ∙ ap (λ l. step_text t ++ l) (before_push steps s x) ∙ sym (steps-cons t steps (step_text s ++ x))
 
-pub one_more : (text rest after : List ℕ) (steps next : List PathStep) (s : PathStep) → AreRead text steps rest → IsStepAt rest s after → next ≡ steps ++ s ∷ [] → AreRead text next after
+pub one_more : (text rest after : List ℕ) (steps next : List PathStep) (s : PathStep) → AreRead text steps rest → IsStepAt rest s after
+    → next ≡ steps ++ s ∷ [] → AreRead text next after
 one_more text rest after steps next s h k e =
     subst (λ l. AreRead text l after) (sym e)
-    (record { fits = fits_push steps s h.fits k.fits; same = h.same ∙ ap (steps_before steps) k.same ∙ sym (before_push steps s after); ended = ended_push steps s after k.ends })
+    (record {
+      fits = fits_push steps s h.fits k.fits;
+      same = h.same ∙ ap (steps_before steps) k.same
+          ∙ sym (before_push steps s after);
+      ended = ended_push steps s after k.ends;
+    })
 
 pub path_read : (text rest after : List ℕ) (steps path : List PathStep) → AreRead text steps rest → rest ≡ 58 ∷ after → path ≡ steps → IsPathAt text path after
 path_read text rest after steps path h e p = subst (λ l. IsPathAt text l after) (sym p) (record { fits = h.fits; same = h.same ∙ ap (steps_before steps) e })

@@ -1,4 +1,5 @@
-//! Labels, their texts and keys, and the scripts and signatures that are made of keys.
+//! Labels are the names of keys, such as `D:A` or `B:0:r.1:A`. Here they are read and written, and keys, deposit
+//! scripts and model signatures are made of them.
 #![tactic(auto)]
 
 mod keyed;

@@ -1,4 +1,4 @@
-//! The pieces of a label's text, each read from the front of what is left.
+//! The pieces of a label's text, each read from the prefix of what is left.
 
 ghost use Rattle.std.specs.Prelude.{◌≡◌, ◌^◌, ℕ, List, ◌∷◌, IfSome, IfNone};
 ghost use Rattle.spec_data.specs.Digits.{is_digit, number_below};

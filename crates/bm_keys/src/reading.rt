@@ -17,7 +17,7 @@ use std::alloc::{AllocError, AllocFailed, Global};
 pub enum LabelError {
     /// No label has this text.
     Bad,
-    /// Want of memory.
+    /// Out of memory.
     Memory,
 }
 

@@ -46,7 +46,8 @@ number-least low high (e ∷ es) p n h at =
     ] at
 
 -- the output at a place is found by its number
-pub numbered-at_place : (low high : ℕ) (es : List Entry) (p : OutPoint) (n : ℕ) → AreInOrder low high es → number_at es p ≡ Some n → numbered es n ≡ option_map (λ q. (p, q)) (at_place es p)
+pub numbered-at_place : (low high : ℕ) (es : List Entry) (p : OutPoint) (n : ℕ) → AreInOrder low high es → number_at es p ≡ Some n
+    → numbered es n ≡ option_map (λ q. (p, q)) (at_place es p)
 numbered-at_place low high [] p n h at = cc
 numbered-at_place low high (e ∷ es) p n h at =
     elim (same_outpoint p e.0) as (λ b. same_outpoint p e.0 ≡ b → option_map (λ q. q.0) (cond b (Some e.1) (at_place es p)) ≡ Some n → cond (e.1.0 == n) (Some e) (numbered es n) ≡ option_map (λ q. (p, q)) (cond b (Some e.1) (at_place es p))) [
@@ -166,7 +167,8 @@ not_first p x xs h =
       | false ↦ λ s. (refl, s)
     ] h
 
-at_place-push : (es : List Entry) (e : Entry) (q : OutPoint) → at_place es e.0 ≡ None → at_place (es ++ e ∷ []) q ≡ cond (same_outpoint e.0 q) (Some e.1) (at_place es q)
+at_place-push : (es : List Entry) (e : Entry) (q : OutPoint) → at_place es e.0 ≡ None → at_place (es ++ e ∷ []) q
+    ≡ cond (same_outpoint e.0 q) (Some e.1) (at_place es q)
 at_place-push [] e q h = ap (λ b. cond {A = Option (ℕ × TxOut)} b (Some e.1) None) (same-flip q e.0)
 at_place-push (x ∷ xs) e q h =
     let n = not_first e.0 x xs h in
@@ -187,7 +189,8 @@ apart-push (x ∷ xs) e h new =
 -- ---- what keeps the outputs indexed
 
 -- an output more, of a new place and a higher number
-pub added : (f g : OutPoint → Option ℕ) (es : List Entry) (p : OutPoint) (n : ℕ) (o : TxOut) → AreIndexed f es → AreInOrder 0 n es → n < 2 ^ 32 → at_place es p ≡ None → ((q : OutPoint) → g q ≡ cond (same_outpoint p q) (Some n) (f q)) → AreIndexed g (es ++ (p, (n, o)) ∷ [])
+pub added : (f g : OutPoint → Option ℕ) (es : List Entry) (p : OutPoint) (n : ℕ) (o : TxOut) → AreIndexed f es → AreInOrder 0 n es
+    → n < 2 ^ 32 → at_place es p ≡ None → ((q : OutPoint) → g q ≡ cond (same_outpoint p q) (Some n) (f q)) → AreIndexed g (es ++ (p, (n, o)) ∷ [])
 added f g es p n o was order fits new now = record {
   in_order = in_order-append 0 n (2 ^ 32) es ((p, (n, o)) ∷ []) (omega arith) (omega arith) order ((omega arith), fits, tt);
   apart = apart-push es (p, (n, o)) was.apart new;
@@ -201,20 +204,23 @@ added f g es p n o was order fits new now = record {
 }
 
 -- one removed
-pub removed : (f g : OutPoint → Option ℕ) (es : List Entry) (p : OutPoint) → AreIndexed f es → ((q : OutPoint) → g q ≡ cond (same_outpoint p q) None (f q)) → AreIndexed g (remove_entry (same_outpoint p) es)
+pub removed : (f g : OutPoint → Option ℕ) (es : List Entry) (p : OutPoint) → AreIndexed f es
+    → ((q : OutPoint) → g q ≡ cond (same_outpoint p q) None (f q)) → AreIndexed g (remove_entry (same_outpoint p) es)
 removed f g es p was now = record {
   in_order = in_order-remove_entry 0 (2 ^ 32) p es was.in_order;
   apart = apart-removed es p was.apart;
   numbers = λ q.
       now q
       ∙ elim (same_outpoint p q) as (λ b. same_outpoint p q ≡ b → cond b None (f q) ≡ number_at (remove_entry (same_outpoint p) es) q) [
-        | true ↦ λ t. subst (λ r. None ≡ number_at (remove_entry (same_outpoint p) es) r) (same_outpoint-is p q t) (sym (ap (option_map (λ (r : ℕ × TxOut). r.0)) (gone es p was.apart)))
+        | true ↦ λ t. subst (λ r. None ≡ number_at (remove_entry (same_outpoint p) es) r) (same_outpoint-is p q t)
+            (sym (ap (option_map (λ (r : ℕ × TxOut). r.0)) (gone es p was.apart)))
         | false ↦ λ t. was.numbers q ∙ sym (ap (option_map (λ (r : ℕ × TxOut). r.0)) (at_place-remove_entry es p q (other-place p q t)))
       ] refl;
 }
 
 -- the last one removed
-pub popped : (f g : OutPoint → Option ℕ) (es all : List Entry) (e : Entry) → all ≡ es ++ e ∷ [] → AreIndexed f all → ((q : OutPoint) → g q ≡ cond (same_outpoint e.0 q) None (f q)) → AreIndexed g es
+pub popped : (f g : OutPoint → Option ℕ) (es all : List Entry) (e : Entry) → all ≡ es ++ e ∷ [] → AreIndexed f all
+    → ((q : OutPoint) → g q ≡ cond (same_outpoint e.0 q) None (f q)) → AreIndexed g es
 popped f g es all e is was now =
     let cut = subst (AreIndexed f) is was in
     subst (AreIndexed g) (remove-last es e cut.apart) (removed f g (es ++ e ∷ []) e.0 cut now)
@@ -226,7 +232,8 @@ second_of p None = refl
 second_of p (Some q) = refl
 
 -- the output of a place's number
-pub found : (f : OutPoint → Option ℕ) (es : List Entry) (p : OutPoint) (n : ℕ) → AreIndexed f es → f p ≡ Some n → option_map (λ e. e.1) (numbered es n) ≡ at_place es p
+pub found : (f : OutPoint → Option ℕ) (es : List Entry) (p : OutPoint) (n : ℕ) → AreIndexed f es → f p ≡ Some n
+    → option_map (λ e. e.1) (numbered es n) ≡ at_place es p
 found f es p n is at =
     ap (option_map (λ (e : Entry). e.1)) (numbered-at_place 0 (2 ^ 32) es p n is.in_order (sym (is.numbers p) ∙ at)) ∙ second_of p (at_place es p)
 
@@ -239,7 +246,8 @@ pub contained : (f : OutPoint → Option ℕ) (es : List Entry) (p : OutPoint) �
 contained f es p is = ap is_some (is.numbers p) ∙ is_numbered (at_place es p)
 
 -- the output of a place's number stands where it is removed
-pub taken : (f : OutPoint → Option ℕ) (es : List Entry) (p : OutPoint) (n i : ℕ) → AreIndexed f es → f p ≡ Some n → numbered es n ≡ option_and_then (if_numbered n) (slice_get es i) → (i < length es) × (remove es i ≡ remove_entry (same_outpoint p) es)
+pub taken : (f : OutPoint → Option ℕ) (es : List Entry) (p : OutPoint) (n i : ℕ) → AreIndexed f es → f p ≡ Some n → numbered es n
+    ≡ option_and_then (if_numbered n) (slice_get es i) → (i < length es) × (remove es i ≡ remove_entry (same_outpoint p) es)
 taken f es p n i is at stands =
     elim (at_place es p) as (λ o. option_map (λ (q : ℕ × TxOut). q.0) o ≡ Some n → numbered es n ≡ option_map (λ q. (p, q)) o → (i < length es) × (remove es i ≡ remove_entry (same_outpoint p) es)) [
       | None ↦ λ s t. cc
@@ -256,7 +264,8 @@ pub untaken : (f : OutPoint → Option ℕ) (es : List Entry) (p : OutPoint) →
 untaken f es p is at = sym (remove-absent es p (none_there es p (sym (is.numbers p) ∙ at)))
 
 -- a txid is new where it has no number
-pub new_by_number : (f : OutPoint → Option ℕ) (es : List Entry) (txid : List ℕ) (b : Bool) → AreIndexed f es → IsTrue b ↔ ((k : ℕ) → f (record { txid = txid; vout = k }) ≡ None) → IsTrue b ↔ IsNewTxid es txid
+pub new_by_number : (f : OutPoint → Option ℕ) (es : List Entry) (txid : List ℕ) (b : Bool) → AreIndexed f es
+    → IsTrue b ↔ ((k : ℕ) → f (record { txid = txid; vout = k }) ≡ None) → IsTrue b ↔ IsNewTxid es txid
 new_by_number f es txid b is h = (
   (λ t k. none_there es (record { txid = txid; vout = k }) (sym (is.numbers (record { txid = txid; vout = k })) ∙ h.0 t k)),
   (λ new. h.1 (λ k. is.numbers (record { txid = txid; vout = k }) ∙ ap (option_map (λ (r : ℕ × TxOut). r.0)) (new k))),

@@ -21,35 +21,46 @@ pub below_higher : (low high end : ℕ) (es : List Entry) → high ≤ end → A
 below_higher low high end [] le h = tt
 below_higher low high end (e ∷ es) le h = (h.0, (let a = h.1 in omega arith), below_higher (e.1.0 + 1) high end es le h.2)
 
-pub in_order-append : (low middle high : ℕ) (xs ys : List Entry) → low ≤ middle → middle ≤ high → AreInOrder low middle xs → AreInOrder middle high ys → AreInOrder low high (xs ++ ys)
+pub in_order-append : (low middle high : ℕ) (xs ys : List Entry) → low ≤ middle → middle ≤ high → AreInOrder low middle xs
+    → AreInOrder middle high ys → AreInOrder low high (xs ++ ys)
 in_order-append low middle high [] ys le le' a b = from_lower low middle high ys le b
 in_order-append low middle high (x ∷ xs) ys le le' a b =
     let lt = a.1 in
     (a.0, (omega arith), in_order-append (x.1.0 + 1) middle high xs ys (omega arith) le' a.2 b)
 
-in_order-born : (births : ℕ) (txid : List ℕ) (k high : ℕ) (os : List TxOut) → births + k + length os ≤ high → AreInOrder (births + k) high (born births txid k os)
+in_order-born : (births : ℕ) (txid : List ℕ) (k high : ℕ) (os : List TxOut) → births + k + length os ≤ high
+    → AreInOrder (births + k) high (born births txid k os)
 in_order-born births txid k high [] le = tt
 in_order-born births txid k high (o ∷ os) le =
-    let e : births + (k + 1) ≡ births + k + 1 = omega arith in
-    (omega arith, omega arith, subst (λ (low : ℕ). AreInOrder low high (born births txid (k + 1) os)) e (in_order-born births txid (k + 1) high os (omega arith)))
+    let e : births + (k + 1) ≡ births + k + 1 = omega arith in (
+      omega arith,
+      omega arith,
+      subst (λ (low : ℕ). AreInOrder low high (born births txid (k + 1) os)) e
+          (in_order-born births txid (k + 1) high os (omega arith)),
+    )
 
 -- the outputs of a transaction after the others
-pub in_order-more : (births : ℕ) (txid : List ℕ) (es : List Entry) (os : List TxOut) → AreInOrder 0 births es → AreInOrder 0 (births + length os) (es ++ born births txid 0 os)
+pub in_order-more : (births : ℕ) (txid : List ℕ) (es : List Entry) (os : List TxOut) → AreInOrder 0 births es
+    → AreInOrder 0 (births + length os) (es ++ born births txid 0 os)
 in_order-more births txid es os h =
     let e : births + 0 ≡ births = omega arith in
-    in_order-append 0 births (births + length os) es (born births txid 0 os) (omega arith) (omega arith) h (subst (λ (low : ℕ). AreInOrder low (births + length os) (born births txid 0 os)) e (in_order-born births txid 0 (births + length os) os (omega arith)))
+    in_order-append 0 births (births + length os) es (born births txid 0 os) (omega arith) (omega arith) h
+    (subst (λ (low : ℕ). AreInOrder low (births + length os) (born births txid 0 os)) e (in_order-born births txid 0 (births + length os) os (omega arith)))
 
 -- the first outputs of a transaction after the others
-pub in_order-so_far : (births : ℕ) (txid : List ℕ) (es now : List Entry) (os : List TxOut) (i : ℕ) → AreInOrder 0 births es → now ≡ es ++ born births txid 0 (take i os) → i < length os → AreInOrder 0 (births + i) now
+pub in_order-so_far : (births : ℕ) (txid : List ℕ) (es now : List Entry) (os : List TxOut) (i : ℕ) → AreInOrder 0 births es → now ≡ es
+    ++ born births txid 0 (take i os) → i < length os → AreInOrder 0 (births + i) now
 in_order-so_far births txid es now os i h is lt =
     let count : length (take i os) ≡ i = length-take-le i os (omega arith) in
-    subst (AreInOrder 0 (births + i)) (sym is) (subst (λ (n : ℕ). AreInOrder 0 (births + n) (es ++ born births txid 0 (take i os))) count (in_order-more births txid es (take i os) h))
+    subst (AreInOrder 0 (births + i)) (sym is)
+    (subst (λ (n : ℕ). AreInOrder 0 (births + n) (es ++ born births txid 0 (take i os))) count (in_order-more births txid es (take i os) h))
 
 -- the outputs of the first transaction
 pub in_order-first : (txid : List ℕ) (os : List TxOut) → AreInOrder 0 (length os) (born 0 txid 0 os)
 in_order-first txid os = in_order-born 0 txid 0 (length os) os (omega arith)
 
-pub in_order-remove_entry : (low high : ℕ) (place : OutPoint) (es : List Entry) → AreInOrder low high es → AreInOrder low high (remove_entry (same_outpoint place) es)
+pub in_order-remove_entry : (low high : ℕ) (place : OutPoint) (es : List Entry) → AreInOrder low high es
+    → AreInOrder low high (remove_entry (same_outpoint place) es)
 in_order-remove_entry low high place [] h = tt
 in_order-remove_entry low high place (e ∷ es) h =
     elim (same_outpoint place e.0) as (λ b. AreInOrder low high (cond b es (e ∷ remove_entry (same_outpoint place) es))) [
@@ -60,7 +71,8 @@ in_order-remove_entry low high place (e ∷ es) h =
 -- those that are left when some are spent
 pub in_order-without : (low high : ℕ) (places : List OutPoint) (es : List Entry) → AreInOrder low high es → AreInOrder low high (without es places)
 in_order-without low high [] es h = h
-in_order-without low high (place ∷ places) es h = in_order-without low high places (remove_entry (same_outpoint place) es) (in_order-remove_entry low high place es h)
+in_order-without low high (place ∷ places) es h =
+    in_order-without low high places (remove_entry (same_outpoint place) es) (in_order-remove_entry low high place es h)
 
 -- ---- the output of a number
 
@@ -104,7 +116,9 @@ all_above low high number (e ∷ es) lt h =
     rw apart (all_above (e.1.0 + 1) high number es (omega arith) h.2)
 
 -- the output of a number stands where the lower numbers end
-pub numbered-at : (low high number : ℕ) (es : List Entry) (i : ℕ) → AreInOrder low high es → i ≤ length es → IsPartitionPoint (λ e. is_below number e ≡ true) (λ e. is_below number e ≡ false) es i → numbered es number ≡ option_and_then (if_numbered number) (slice_get es i)
+pub numbered-at : (low high number : ℕ) (es : List Entry) (i : ℕ) → AreInOrder low high es → i ≤ length es
+    → IsPartitionPoint (λ e. is_below number e ≡ true) (λ e. is_below number e ≡ false) es i → numbered es number
+    ≡ option_and_then (if_numbered number) (slice_get es i)
 numbered-at low high number [] i h le point = refl
 numbered-at low high number (e ∷ es) zero h le point =
     let above = below-not e.1.0 number (point.1 0 e (omega arith) (omega arith)) in
@@ -115,7 +129,8 @@ numbered-at low high number (e ∷ es) zero h le point =
 numbered-at low high number (e ∷ es) (suc i) h le point =
     let before = below-is e.1.0 number (point.0 0 e (omega arith) (omega arith)) in
     let apart : e.1.0 == number ≡ false = other_number e.1.0 number (λ s. omega arith) in
-    rw apart (numbered-at (e.1.0 + 1) high number es i h.2 (omega arith) ((λ k d le' lt. point.0 (suc k) d (omega arith) (omega arith)), (λ k d le' lt. point.1 (suc k) d (omega arith) (omega arith))))
+    rw apart (numbered-at (e.1.0 + 1) high number es i h.2 (omega arith)
+    ((λ k d le' lt. point.0 (suc k) d (omega arith) (omega arith)), (λ k d le' lt. point.1 (suc k) d (omega arith) (omega arith))))
 
 found-least : (low high number : ℕ) (es : List Entry) (i : ℕ) → AreInOrder low high es → option_map (λ e. e.1.0) (slice_get es i) ≡ Some number → low ≤ number
 found-least low high number [] i h at = cc
@@ -123,7 +138,8 @@ found-least low high number (e ∷ es) zero h at = let is : e.1.0 ≡ number = c
 found-least low high number (e ∷ es) (suc i) h at = let r = found-least (e.1.0 + 1) high number es i h.2 at in let a = h.0 in omega arith
 
 -- an output of a number, wherever it was found, is the output of that number
-pub numbered-found : (low high number : ℕ) (es : List Entry) (i : ℕ) → AreInOrder low high es → option_map (λ e. e.1.0) (slice_get es i) ≡ Some number → numbered es number ≡ option_and_then (if_numbered number) (slice_get es i)
+pub numbered-found : (low high number : ℕ) (es : List Entry) (i : ℕ) → AreInOrder low high es → option_map (λ e. e.1.0) (slice_get es i)
+    ≡ Some number → numbered es number ≡ option_and_then (if_numbered number) (slice_get es i)
 numbered-found low high number [] i h at = refl
 numbered-found low high number (e ∷ es) zero h at =
     let is : e.1.0 ≡ number = cc in

@@ -38,7 +38,8 @@ at_place-remove_entry (e ∷ es) p q h =
     ] refl
 
 -- a place that is live in front is removed there
-pub remove_entry-append : (es bs : List Entry) (p : OutPoint) → is_some (at_place es p) ≡ true → remove_entry (same_outpoint p) (es ++ bs) ≡ remove_entry (same_outpoint p) es ++ bs
+pub remove_entry-append : (es bs : List Entry) (p : OutPoint) → is_some (at_place es p) ≡ true → remove_entry (same_outpoint p) (es ++ bs)
+    ≡ remove_entry (same_outpoint p) es ++ bs
 remove_entry-append [] bs p h = cc
 remove_entry-append (e ∷ es) bs p h =
     elim (same_outpoint p e.0) as (λ b. is_some (cond b (Some e.1) (at_place es p)) ≡ true → cond b (es ++ bs) (e ∷ remove_entry (same_outpoint p) (es ++ bs)) ≡ cond b es (e ∷ remove_entry (same_outpoint p) es) ++ bs) [
@@ -58,23 +59,28 @@ all_live es k (i ∷ is) h =
       | false ↦ λ t s. cc
     ] refl h
 
-stay_live : (es : List Entry) (p : OutPoint) (is : List TxIn) → list_any (λ j. same_outpoint j.prev p) is ≡ false → AllLive es is → AllLive (remove_entry (same_outpoint p) es) is
+stay_live : (es : List Entry) (p : OutPoint) (is : List TxIn) → list_any (λ j. same_outpoint j.prev p) is ≡ false → AllLive es is
+    → AllLive (remove_entry (same_outpoint p) es) is
 stay_live es p [] h l = tt
 stay_live es p (i ∷ is) h l =
     let n = neither (same_outpoint i.prev p) (list_any (λ j. same_outpoint j.prev p) is) h in
     (ap is_some (at_place-remove_entry es p i.prev n.0) ∙ l.0, stay_live es p is n.1 l.1)
 
-without_append : (es bs : List Entry) (is : List TxIn) → AllLive es is → has_repeat is ≡ false → without (es ++ bs) (map (λ i. i.prev) is) ≡ without es (map (λ i. i.prev) is) ++ bs
+without_append : (es bs : List Entry) (is : List TxIn) → AllLive es is → has_repeat is ≡ false → without (es ++ bs) (map (λ i. i.prev) is)
+    ≡ without es (map (λ i. i.prev) is) ++ bs
 without_append es bs [] l h = refl
 without_append es bs (i ∷ is) l h =
     let n = neither (list_any (λ j. same_outpoint j.prev i.prev) is) (has_repeat is) h in
     ap (λ x. without x (map (λ i. i.prev) is)) (remove_entry-append es bs i.prev l.0)
     ∙ without_append (remove_entry (same_outpoint i.prev) es) bs is (stay_live es i.prev is n.0 l.1) n.1
 
-pub without-append : (es bs : List Entry) (is : List TxIn) → first_missing es is ≡ None → has_repeat is ≡ false → without (es ++ bs) (map (λ i. i.prev) is) ≡ without es (map (λ i. i.prev) is) ++ bs
+pub without-append : (es bs : List Entry) (is : List TxIn) → first_missing es is ≡ None → has_repeat is ≡ false
+    → without (es ++ bs) (map (λ i. i.prev) is) ≡ without es (map (λ i. i.prev) is) ++ bs
 without-append es bs is m h = without_append es bs is (all_live es 0 is m) h
 
 -- the ledger after an accepted transaction
-pub appended : (chain : Chain) (tx : Tx) (txid : List ℕ) (births : ℕ) (next : List Entry) → first_missing chain.live tx.inputs ≡ None → has_repeat tx.inputs ≡ false → next ≡ without (chain.live ++ born chain.births txid 0 tx.outputs) (map (λ i. i.prev) tx.inputs) → births ≡ chain.births + length tx.outputs → ◌≡◌ {A = Chain} (record { tip = chain.tip; births = births; live = next }) (after_transaction chain txid tx)
+pub appended : (chain : Chain) (tx : Tx) (txid : List ℕ) (births : ℕ) (next : List Entry) → first_missing chain.live tx.inputs ≡ None
+    → has_repeat tx.inputs ≡ false → next ≡ without (chain.live ++ born chain.births txid 0 tx.outputs) (map (λ i. i.prev) tx.inputs)
+    → births ≡ chain.births + length tx.outputs → ◌≡◌ {A = Chain} (record { tip = chain.tip; births = births; live = next }) (after_transaction chain txid tx)
 appended chain tx txid births next missing repeat shrunk count =
     rw (count, shrunk, without-append chain.live (born chain.births txid 0 tx.outputs) tx.inputs missing repeat) refl

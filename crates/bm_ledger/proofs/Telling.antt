@@ -51,7 +51,8 @@ told_apart : (es : List Entry) (i j : TxIn) → AreInOrder 0 (2 ^ 32) es → is_
     → spent_number es j == spent_number es i ≡ same_outpoint j.prev i.prev
 told_apart es i j order here there =
     elim (same_outpoint j.prev i.prev) as (λ b. same_outpoint j.prev i.prev ≡ b → spent_number es j == spent_number es i ≡ b) [
-      | true ↦ λ t. equal_numbers (spent_number es j) (spent_number es i) (ap (λ p. option_map_or (λ r. r.0) (at_place es p) 0) (same_outpoint-is j.prev i.prev t))
+      | true ↦ λ t. equal_numbers (spent_number es j) (spent_number es i)
+          (ap (λ p. option_map_or (λ r. r.0) (at_place es p) 0) (same_outpoint-is j.prev i.prev t))
       | false ↦ λ t. other_number (spent_number es j) (spent_number es i) (λ s.
           let is = one_place es j.prev i.prev order there here s in
           (let same : same_outpoint j.prev i.prev ≡ true = ap (same_outpoint j.prev) (sym is) ∙ same-itself j.prev in cc))

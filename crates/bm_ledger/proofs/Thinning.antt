@@ -42,7 +42,8 @@ first_or_rest true false o = refl
 first_or_rest false b o = refl
 
 -- what is found is what is left without the places that were lost, and it stays indexed
-pub thinned : (f g : OutPoint → Option ℕ) (places : List OutPoint) (es : List Entry) → AreIndexed f es → LosesPlaces f g places → (filter (λ e. is_some (g e.0)) es ≡ without es places) × AreIndexed g (without es places)
+pub thinned : (f g : OutPoint → Option ℕ) (places : List OutPoint) (es : List Entry) → AreIndexed f es → LosesPlaces f g places
+    → (filter (λ e. is_some (g e.0)) es ≡ without es places) × AreIndexed g (without es places)
 thinned f g [] es was lost =
     let now : AreIndexed g es = record { in_order = was.in_order; apart = was.apart; numbers = λ q. lost q ∙ was.numbers q } in
     (stay (λ q. is_some (g q)) es (λ q s. contained g es q now ∙ s), now)
@@ -73,7 +74,9 @@ next_or_before true false o = refl
 next_or_before false b o = refl
 
 -- the places so far and the next
-pub forgotten : (f g h : OutPoint → Option ℕ) (is : List TxIn) (k : ℕ) (i : TxIn) → LosesPlaces f g (map (λ j. j.prev) (take k is)) → k < length is → i ≡ get_or is k i → ((q : OutPoint) → h q ≡ cond (same_outpoint i.prev q) None (g q)) → LosesPlaces f h (map (λ j. j.prev) (take (k + 1) is))
+pub forgotten : (f g h : OutPoint → Option ℕ) (is : List TxIn) (k : ℕ) (i : TxIn) → LosesPlaces f g (map (λ j. j.prev) (take k is))
+    → k < length is → i ≡ get_or is k i → ((q : OutPoint) → h q ≡ cond (same_outpoint i.prev q) None (g q))
+    → LosesPlaces f h (map (λ j. j.prev) (take (k + 1) is))
 forgotten f g h is k i lost lt at next q =
     let taken = take_more is k i lt ∙ ap (λ x. take k is ++ x ∷ []) (sym at) in
     let more = ap (λ l. list_any (λ p. same_outpoint p q) (map (λ j. j.prev) l)) taken ∙ any-push (λ p. same_outpoint p q) (take k is) i in

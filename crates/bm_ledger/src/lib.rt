@@ -1,4 +1,5 @@
-//! The ledger: which outputs are live, and what becomes of a transaction.
+//! The model of Bitcoin's ledger: the live outputs and the height. It says by which rule a transaction is refused
+//! first, or accepts it.
 #![tactic(auto)]
 
 mod hashes;

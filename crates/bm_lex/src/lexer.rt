@@ -3,10 +3,10 @@
 ghost use Rattle.std.specs.Prelude.{◌≡◌, ℕ, List, length, IfOk, Ok, Err};
 ghost use Rattle.std.specs.List.{AllByRecursion};
 ghost use Rattle.spec_text.specs.Lexis.{tokens_of};
-ghost use Rattle.bm_lex.specs.Fronts.{Answers, LiesIn};
+ghost use Rattle.bm_lex.specs.Prefixes.{Answers, LiesIn};
 
 use crate::error::LexError;
-use crate::front::{front_of, is_blank};
+use crate::prefix::{is_blank, prefix_of};
 use spec_text::Token;
 use std::alloc::Global;
 
@@ -21,7 +21,7 @@ pub fn tokens(alloc: Global, text: &[u8]) -> Result<Vec<Token>, LexError>
         if is_blank(text[place]) {
             place += 1;
         } else {
-            match front_of(&text[place..]) {
+            match prefix_of(&text[place..]) {
                 None => return Err(LexError::BadByte(place)),
                 Some((kind, more)) => {
                     let end = place + more + 1;

@@ -1,9 +1,9 @@
-//! The tokens of contract text.
+//! Splits contract text into tokens, as the reader takes them. The first byte that begins no token is found here.
 #![tactic(auto)]
 
 pub mod error;
-mod front;
 mod lexer;
+mod prefix;
 
 pub use error::LexError;
 pub use lexer::tokens;

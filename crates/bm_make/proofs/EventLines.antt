@@ -6,7 +6,7 @@ use Rattle.std.specs.Fmt.{decimal, digits}
 use Rattle.spec_run.specs.declared.event.Event.{Event}
 use Rattle.spec_run.specs.declared.event.Event.TheVariants as events
 use Rattle.spec_text.specs.RunText.{event_text, newline}
-use Rattle.spec_text.specs.Generator.{first_events, all_stages, begun, made_events, party_a, secret_name}
+use Rattle.spec_text.specs.Generator.{first_events, all_stages, begun, generated_events, party_a, secret_name}
 use Rattle.bm_make.specs.Lines.{line, lines}
 use Rattle.bm_make.specs.Stages.{stages_with}
 use Rattle.bm_make.proofs.GiftSteps.{stages_are}
@@ -32,7 +32,7 @@ fire_line n =
     ∙ ap (λ text. codes "fire #" ++ text) (append_assoc (decimal n) (codes " 0") newline)
 
 -- the lines of the first events, and those of the stages
-pub event_lines : (size state : ℕ) → lines (made_events size state) ≡ lines first_events ++ lines (stages_with 300 size 1 (begun state))
+pub event_lines : (size state : ℕ) → lines (generated_events size state) ≡ lines first_events ++ lines (stages_with 300 size 1 (begun state))
 event_lines size state =
     flat_map-append (λ e. event_text e ++ newline) first_events (all_stages size 1 (begun state))
     ∙ ap (λ es. lines first_events ++ lines es) (sym (stages_are size 1 (begun state)))

@@ -1,4 +1,4 @@
--- The events of the stages of a made run, for any number of gifts in each.
+-- The events of the stages of a generated run, for any number of gifts in each.
 use Rattle.std.specs.Prelude.{ℕ, zero, suc, ◌+◌, List, [], ◌∷◌, ◌++◌}
 use Rattle.spec_run.specs.declared.event.Event.{Event}
 use Rattle.spec_run.specs.declared.event.Event.TheVariants as events

@@ -1,12 +1,12 @@
-//! The text of a made contract.
+//! The text of a generated contract.
 
 ghost use Rattle.std.specs.Prelude.{◌≡◌, ◌≤◌, ◌+◌, ◌*◌, ◌++◌, codes, length, OnOk};
 ghost use Rattle.std.specs.Fmt.{decimal};
 ghost use Rattle.spec_terms.specs.declared.pre.Pre.TheVariants.{Persistent};
 ghost use Rattle.spec_text.specs.Canonical.{entry_text, rest_entries_text, choice_text, advert_text};
-ghost use Rattle.spec_text.specs.Generator.{secret_name, stages, secret_entries, made_advert};
+ghost use Rattle.spec_text.specs.Generator.{secret_name, stages, secret_entries, generated_advert};
 
-use crate::secrets::Made;
+use crate::secrets::Generated;
 use bm_text::{put, put_decimal};
 use spec_data::OutOfMemory;
 use std::alloc::Global;
@@ -48,7 +48,11 @@ fn put_secret_entry(alloc: Global, out: &mut Vec<u8>, number: u64) -> Result<(),
 
 /// An entry for each secret, after those of the deposits.
 #[tactic(auto, using(std::proofs::Common::append_assoc, crate::proofs::EntrySteps::entry_step))]
-fn put_secret_entries(alloc: Global, out: &mut Vec<u8>, secrets: &[Made]) -> Result<(), OutOfMemory>
+fn put_secret_entries(
+    alloc: Global,
+    out: &mut Vec<u8>,
+    secrets: &[Generated],
+) -> Result<(), OutOfMemory>
     requires { length secrets.now ≤ 30 }
     ensures { OnOk result (out.new.items ≡ out.old.items ++ rest_entries_text (secret_entries 1 secrets.now)) }
 {
@@ -62,7 +66,7 @@ fn put_secret_entries(alloc: Global, out: &mut Vec<u8>, secrets: &[Made]) -> Res
 
 /// The beginning of a stage, up to what it goes on with.
 #[tactic(auto, using(std::proofs::Common::append_assoc))]
-fn put_stage_front(
+fn put_stage_prefix(
     alloc: Global,
     out: &mut Vec<u8>,
     number: u64,
@@ -97,7 +101,7 @@ fn put_stages(
     alloc: Global,
     out: &mut Vec<u8>,
     number: u64,
-    secrets: &[Made],
+    secrets: &[Generated],
 ) -> Result<(), OutOfMemory>
     requires { number + length secrets.now ≤ 1000 }
     ensures { OnOk result (out.new.items ≡ out.old.items ++ choice_text (stages number secrets.now)) }
@@ -105,14 +109,18 @@ fn put_stages(
     let [(length, _), later @ ..] = secrets else {
         return put(out, b"withdraw A");
     };
-    put_stage_front(alloc, out, number, *length)?;
+    put_stage_prefix(alloc, out, number, *length)?;
     put_stages(alloc, out, number + 1, later)?;
     put_stage_back(alloc, out, number)
 }
 
 /// What the parties put in, and the secrets of A.
 #[tactic(auto, using(std::proofs::Common::append_assoc))]
-fn put_precondition(alloc: Global, out: &mut Vec<u8>, secrets: &[Made]) -> Result<(), OutOfMemory>
+fn put_precondition(
+    alloc: Global,
+    out: &mut Vec<u8>,
+    secrets: &[Generated],
+) -> Result<(), OutOfMemory>
     requires { length secrets.now ≤ 30 }
     ensures { OnOk result (out.new.items ≡ out.old.items ++ (codes "{" ++ (entry_text (Persistent (codes "A") 1000000 (codes "x"))
         ++ (codes " | " ++ (entry_text (Persistent (codes "B") 0 (codes "y")) ++ rest_entries_text (secret_entries 1 secrets.now)))))) }
@@ -129,10 +137,10 @@ fn put_precondition(alloc: Global, out: &mut Vec<u8>, secrets: &[Made]) -> Resul
 pub(crate) fn put_contract(
     alloc: Global,
     out: &mut Vec<u8>,
-    secrets: &[Made],
+    secrets: &[Generated],
 ) -> Result<(), OutOfMemory>
     requires { length secrets.now ≤ 30 }
-    ensures { OnOk result (out.new.items ≡ out.old.items ++ advert_text (made_advert secrets.now)) }
+    ensures { OnOk result (out.new.items ≡ out.old.items ++ advert_text (generated_advert secrets.now)) }
 {
     put_precondition(alloc, out, secrets)?;
     put(out, b"} ")?;

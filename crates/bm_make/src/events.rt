@@ -1,4 +1,4 @@
-//! The events of a made run.
+//! The events of a generated run.
 
 ghost use Rattle.std.specs.Prelude.{◌≡◌, ◌<◌, ◌≤◌, ◌+◌, ◌*◌, ◌^◌, ◌++◌, OnOk};
 ghost use Rattle.spec_run.specs.declared.event.Event.TheVariants as events;
@@ -94,7 +94,7 @@ pub(crate) fn put_events(
     size: u64,
 ) -> Result<(), OutOfMemory>
     requires { size ≤ 30 }
-    ensures { OnOk result (out.new.items ≡ out.old.items ++ lines (spec.made_events size draws.state)) }
+    ensures { OnOk result (out.new.items ≡ out.old.items ++ lines (spec.generated_events size draws.state)) }
 {
     let mut going = Going::begun(alloc, draws)?;
     put_first(out)?;

@@ -1,4 +1,4 @@
-//! What the events of a made run go on from, and the gifts.
+//! What the events of a generated run go on from, and the gifts.
 
 ghost use Rattle.std.specs.Prelude.{◌≡◌, ◌<◌, ◌≤◌, ◌+◌, ◌*◌, ◌^◌, ◌++◌, IfOk, OnOk};
 ghost use Rattle.spec_text.specs.Generator as spec;

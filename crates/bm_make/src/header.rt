@@ -1,11 +1,11 @@
-//! The header of a made run.
+//! The header of a generated run.
 
 ghost use Rattle.std.specs.Prelude.{◌≡◌, ◌≤◌, ◌++◌, codes, flat_map, length, OnOk};
 ghost use Rattle.spec_text.specs.RunText.{secret_text, deposit_text, header_text, newline};
-ghost use Rattle.spec_text.specs.Generator.{held, held_from, made_header};
+ghost use Rattle.spec_text.specs.Generator.{held, held_from, generated_header};
 
 use crate::contract::put_name;
-use crate::secrets::Made;
+use crate::secrets::Generated;
 use bm_text::{put, put_decimal, put_hex};
 use spec_data::{Bytes, OutOfMemory};
 use std::alloc::Global;
@@ -15,7 +15,7 @@ fn put_secret(
     alloc: Global,
     out: &mut Vec<u8>,
     number: u64,
-    secret: &Made,
+    secret: &Generated,
 ) -> Result<(), OutOfMemory>
     ensures { OnOk result (out.new.items ≡ out.old.items ++ secret_text (held number secret.now)) }
 {
@@ -28,7 +28,7 @@ fn put_secret(
 
 /// A line for each secret.
 #[tactic(auto, using(std::proofs::Common::append_assoc))]
-fn put_secrets(alloc: Global, out: &mut Vec<u8>, secrets: &[Made]) -> Result<(), OutOfMemory>
+fn put_secrets(alloc: Global, out: &mut Vec<u8>, secrets: &[Generated]) -> Result<(), OutOfMemory>
     requires { length secrets.now ≤ 30 }
     ensures { OnOk result (out.new.items ≡ out.old.items ++ flat_map secret_text (held_from 1 secrets.now)) }
 {
@@ -74,10 +74,10 @@ fn put_deposits(alloc: Global, out: &mut Vec<u8>) -> Result<(), OutOfMemory>
 pub(crate) fn put_header(
     alloc: Global,
     out: &mut Vec<u8>,
-    secrets: &[Made],
+    secrets: &[Generated],
 ) -> Result<(), OutOfMemory>
     requires { length secrets.now ≤ 30 }
-    ensures { OnOk result (out.new.items ≡ out.old.items ++ header_text (made_header secrets.now)) }
+    ensures { OnOk result (out.new.items ≡ out.old.items ++ header_text (generated_header secrets.now)) }
 {
     put(out, b"party A\nparty B\nhonest A\nhonest B\n")?;
     put_secrets(alloc, out, secrets)?;

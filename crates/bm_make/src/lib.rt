@@ -1,4 +1,4 @@
-//! A contract and a run that are made from a number: large runs to play, with no file to read.
+//! Makes a contract and a large run from a number, for `make`: input for measuring and for tests without a file.
 #![tactic(auto)]
 
 mod contract;

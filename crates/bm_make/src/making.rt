@@ -13,14 +13,14 @@ use crate::contract::put_contract;
 use crate::draws::Draws;
 use crate::events::put_events;
 use crate::header::put_header;
-use crate::secrets::{Made, secrets};
+use crate::secrets::{Generated, secrets};
 use spec_data::OutOfMemory;
 use std::alloc::Global;
-use theory_generator::{made_contracts_are_taken, made_runs_are_taken};
+use theory_generator::{generated_contracts_are_taken, generated_runs_are_taken};
 
-fn contract_text(alloc: Global, secrets: &[Made]) -> Result<Vec<u8>, OutOfMemory>
+fn contract_text(alloc: Global, secrets: &[Generated]) -> Result<Vec<u8>, OutOfMemory>
     requires { length secrets.now ≤ 30 }
-    ensures { IfOk result (λ t. t.items ≡ advert_text (spec.made_advert secrets.now)) }
+    ensures { IfOk result (λ t. t.items ≡ advert_text (spec.generated_advert secrets.now)) }
 {
     let mut out = Vec::new(alloc);
     put_contract(alloc, &mut out, secrets)?;
@@ -29,13 +29,13 @@ fn contract_text(alloc: Global, secrets: &[Made]) -> Result<Vec<u8>, OutOfMemory
 
 fn run_text(
     alloc: Global,
-    secrets: &[Made],
+    secrets: &[Generated],
     draws: Draws,
     size: u64,
 ) -> Result<Vec<u8>, OutOfMemory>
     requires secrets { length secrets.now ≤ 30 }
     requires size { size ≤ 30 }
-    ensures { IfOk result (λ t. t.items ≡ header_text (spec.made_header secrets.now) ++ lines (spec.made_events size draws.state)) }
+    ensures { IfOk result (λ t. t.items ≡ header_text (spec.generated_header secrets.now) ++ lines (spec.generated_events size draws.state)) }
 {
     let mut out = Vec::new(alloc);
     put_header(alloc, &mut out, secrets)?;
@@ -46,8 +46,8 @@ fn run_text(
 /// The two texts.
 fn texts(alloc: Global, number: u64, size: u32) -> Result<(Vec<u8>, Vec<u8>), OutOfMemory>
     requires { size ≤ 30 }
-    ensures contract { IfOk result (λ t. t.0.items ≡ advert_text (spec.made_contract number size)) }
-    ensures run { IfOk result (λ t. t.1.items ≡ run_text (spec.made_run number size)) }
+    ensures contract { IfOk result (λ t. t.0.items ≡ advert_text (spec.generated_contract number size)) }
+    ensures run { IfOk result (λ t. t.1.items ≡ run_text (spec.generated_run number size)) }
 {
     let mut draws = Draws { state: number };
     let made = secrets(alloc, &mut draws, size as u8)?;
@@ -60,13 +60,13 @@ fn texts(alloc: Global, number: u64, size: u32) -> Result<(Vec<u8>, Vec<u8>), Ou
 /// makes 300 gifts after it. The first text is read as a contract that is well-formed, the second as a valid run.
 pub fn make(alloc: Global, number: u64, size: u32) -> Result<(Vec<u8>, Vec<u8>), OutOfMemory>
     requires { size ≤ most_size }
-    ensures contract { IfOk result (λ t. t.0.items ≡ advert_text (spec.made_contract number size)) }
-    ensures run { IfOk result (λ t. t.1.items ≡ run_text (spec.made_run number size)) }
-    ensures well_formed { IsWellFormed (spec.made_contract number size) }
-    ensures taken { IfOk result (λ t. contract_of t.0.items ≡ Ok (spec.made_contract number size)) }
-    ensures valid { IfOk result (λ t. run_of t.1.items ≡ Ok (spec.made_run number size)) }
+    ensures contract { IfOk result (λ t. t.0.items ≡ advert_text (spec.generated_contract number size)) }
+    ensures run { IfOk result (λ t. t.1.items ≡ run_text (spec.generated_run number size)) }
+    ensures well_formed { IsWellFormed (spec.generated_contract number size) }
+    ensures taken { IfOk result (λ t. contract_of t.0.items ≡ Ok (spec.generated_contract number size)) }
+    ensures valid { IfOk result (λ t. run_of t.1.items ≡ Ok (spec.generated_run number size)) }
 {
-    made_contracts_are_taken();
-    made_runs_are_taken();
+    generated_contracts_are_taken();
+    generated_runs_are_taken();
     texts(alloc, number, size)
 }

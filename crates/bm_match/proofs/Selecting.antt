@@ -5,19 +5,19 @@ use Rattle.std.proofs.lemmas.List.{reverse-append}
 use Rattle.spec_bitcoin.specs.Effects.{truth}
 use Rattle.spec_compiler.specs.Witness.{first_true}
 
-top_first : (front : List (List ℕ)) (x : List ℕ) → reverse (front ++ x ∷ []) ≡ x ∷ reverse front
-top_first front x = reverse-append front (x ∷ [])
+top_first : (prefix : List (List ℕ)) (x : List ℕ) → reverse (prefix ++ x ∷ []) ≡ x ∷ reverse prefix
+top_first prefix x = reverse-append prefix (x ∷ [])
 
 -- an item that is true is chosen
-pub chosen_here : (k most : ℕ) (x : List ℕ) (front : List (List ℕ)) → k < most → truth x ≡ true
-    → first_true k most (take (most - k) (reverse (front ++ x ∷ []))) ≡ k
-chosen_here k most x front h t =
+pub chosen_here : (k most : ℕ) (x : List ℕ) (prefix : List (List ℕ)) → k < most → truth x ≡ true
+    → first_true k most (take (most - k) (reverse (prefix ++ x ∷ []))) ≡ k
+chosen_here k most x prefix h t =
     let m : most - k ≡ suc (most - (k + 1)) = omega arith in
-    rw (top_first front x, m, t) refl
+    rw (top_first prefix x, m, t) refl
 
 -- and one that isn't is passed over
-pub chosen_later : (k most : ℕ) (x : List ℕ) (front : List (List ℕ)) → k < most → truth x ≡ false
-    → first_true k most (take (most - k) (reverse (front ++ x ∷ []))) ≡ first_true (k + 1) most (take (most - (k + 1)) (reverse front))
-chosen_later k most x front h t =
+pub chosen_later : (k most : ℕ) (x : List ℕ) (prefix : List (List ℕ)) → k < most → truth x ≡ false
+    → first_true k most (take (most - k) (reverse (prefix ++ x ∷ []))) ≡ first_true (k + 1) most (take (most - (k + 1)) (reverse prefix))
+chosen_later k most x prefix h t =
     let m : most - k ≡ suc (most - (k + 1)) = omega arith in
-    rw (top_first front x, m, t) refl
+    rw (top_first prefix x, m, t) refl

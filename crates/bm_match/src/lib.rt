@@ -1,5 +1,5 @@
-//! Which compiled transaction of a contract a transaction is: the initial one, that of the branch which its first input's witness
-//! chooses, or none.
+//! Tells what a transaction is to a contract: the initial one, that of a branch, or none of its own. Runs ask it of
+//! every transaction that reaches the ledger.
 #![tactic(auto)]
 
 mod chosen;

@@ -1,4 +1,5 @@
-//! The offers of a configuration: the contract steps that may be taken now, each with the event that it is taken by.
+//! Lists what may be taken now: each enabled contract step of a configuration, with the event that takes it. These are
+//! the `offer` lines of `play`.
 #![tactic(auto)]
 
 mod branches;

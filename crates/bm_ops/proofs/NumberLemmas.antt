@@ -24,7 +24,8 @@ unfolding signed_bytes
 no_bytes n negative = refl
 
 -- the loop's step and its end
-pub byte_more : (items next all : List ℕ) (i n : ℕ) (negative : Bool) → i < 9 → 128 ≤ n → next ≡ items ++ (n % 256) ∷ [] → items ++ signed_bytes (9 - i) n negative ≡ all → next ++ signed_bytes (9 - (i + 1)) (n / 256) negative ≡ all
+pub byte_more : (items next all : List ℕ) (i n : ℕ) (negative : Bool) → i < 9 → 128 ≤ n → next ≡ items ++ (n % 256) ∷ [] → items
+    ++ signed_bytes (9 - i) n negative ≡ all → next ++ signed_bytes (9 - (i + 1)) (n / 256) negative ≡ all
 byte_more items next all i n negative lt le e h =
     let step = more_bytes (9 - i) n negative (omega arith) le in
     let less : 9 - i - 1 ≡ 9 - (i + 1) = omega arith in

@@ -25,7 +25,8 @@ head_positive b rest q h =
       ] s
     ] h
 
-cut_shorter : (b : ℕ) (rest : List ℕ) (o : Option (ℕ × ℕ)) (p : Op × List ℕ) → ((q : ℕ × ℕ) → o ≡ Some q → 0 < q.0) → cut_push (b ∷ rest) o ≡ Some p → length p.1 ≤ length rest
+cut_shorter : (b : ℕ) (rest : List ℕ) (o : Option (ℕ × ℕ)) (p : Op × List ℕ) → ((q : ℕ × ℕ) → o ≡ Some q → 0 < q.0) → cut_push (b ∷ rest) o
+    ≡ Some p → length p.1 ≤ length rest
 cut_shorter b rest None p pos h = cc
 cut_shorter b rest (Some q) p pos h =
     let lt = pos q refl in
@@ -61,7 +62,8 @@ ops_enough (suc k) (b ∷ rest) h zero g = absurd (omega arith)
 ops_enough (suc k) (b ∷ rest) h (suc j) g =
     and_then_same _ _ (first_op (b ∷ rest)) (λ p e. let s = first_shorter b rest p e in ap (option_map (λ (ops : List Op). p.0 ∷ ops)) (ops_enough k p.1 (omega arith) j (omega arith)))
 
-pub ops_next : (bytes left : List ℕ) (op : Op) → first_op bytes ≡ Some (op, left) → ops_of (length bytes) bytes ≡ option_map (λ (ops : List Op). op ∷ ops) (ops_of (length left) left)
+pub ops_next : (bytes left : List ℕ) (op : Op) → first_op bytes ≡ Some (op, left) → ops_of (length bytes) bytes
+    ≡ option_map (λ (ops : List Op). op ∷ ops) (ops_of (length left) left)
 unfolding ops_of
 ops_next [] left op h = cc
 ops_next (b ∷ rest) left op h =
@@ -79,21 +81,26 @@ unfolding ops_of
 ops_none [] h = refl
 ops_none (b ∷ rest) h = cc
 
-fused : (done next : List Op) (op : Op) (o : Option (List Op)) → next ≡ done ++ op ∷ [] → option_map (λ (more : List Op). next ++ more) o ≡ option_map (λ (more : List Op). done ++ more) (option_map (λ (ops : List Op). op ∷ ops) o)
+fused : (done next : List Op) (op : Op) (o : Option (List Op)) → next ≡ done ++ op ∷ [] → option_map (λ (more : List Op). next ++ more) o
+    ≡ option_map (λ (more : List Op). done ++ more) (option_map (λ (ops : List Op). op ∷ ops) o)
 fused done next op None e = refl
 fused done next op (Some ops) e = ap Some (ap (λ l. l ++ ops) e ∙ append_assoc done (op ∷ []) ops)
 
 -- the loop's step
-pub decode_step : (done next : List Op) (rest left : List ℕ) (op : Op) (all : Option (List Op)) → first_op rest ≡ Some (op, left) → next ≡ done ++ op ∷ [] → option_map (λ (more : List Op). done ++ more) (ops_of (length rest) rest) ≡ all → option_map (λ (more : List Op). next ++ more) (ops_of (length left) left) ≡ all
+pub decode_step : (done next : List Op) (rest left : List ℕ) (op : Op) (all : Option (List Op)) → first_op rest ≡ Some (op, left) → next
+    ≡ done ++ op ∷ [] → option_map (λ (more : List Op). done ++ more) (ops_of (length rest) rest) ≡ all
+    → option_map (λ (more : List Op). next ++ more) (ops_of (length left) left) ≡ all
 decode_step done next rest left op all h e so_far =
     fused done next op (ops_of (length left) left) e ∙ ap (option_map (λ (more : List Op). done ++ more)) (sym (ops_next rest left op h)) ∙ so_far
 
 -- the bytes are used up
-pub decode_end : (done : List Op) (rest : List ℕ) (all : Option (List Op)) → length rest ≡ 0 → option_map (λ (more : List Op). done ++ more) (ops_of (length rest) rest) ≡ all → all ≡ Some done
+pub decode_end : (done : List Op) (rest : List ℕ) (all : Option (List Op)) → length rest ≡ 0
+    → option_map (λ (more : List Op). done ++ more) (ops_of (length rest) rest) ≡ all → all ≡ Some done
 decode_end done rest all h so_far = sym so_far ∙ ap (option_map (λ (more : List Op). done ++ more)) (ops_none rest h) ∙ ap Some (append-nil done)
 
 -- no operation is found
-pub decode_bad : (done : List Op) (rest : List ℕ) (all : Option (List Op)) → 0 < length rest → first_op rest ≡ None → option_map (λ (more : List Op). done ++ more) (ops_of (length rest) rest) ≡ all → all ≡ None
+pub decode_bad : (done : List Op) (rest : List ℕ) (all : Option (List Op)) → 0 < length rest → first_op rest ≡ None
+    → option_map (λ (more : List Op). done ++ more) (ops_of (length rest) rest) ≡ all → all ≡ None
 decode_bad done rest all lt h so_far = sym so_far ∙ ap (option_map (λ (more : List Op). done ++ more)) (ops_bad rest lt h)
 
 -- what the loop's test says of the length

@@ -1,4 +1,5 @@
-//! Scripts as bytes and as operations, and the numbers of their items.
+//! Scripts as operations and as bytes, both ways, and the numbers that their items spell. Compiler and interpreter
+//! share it.
 #![tactic(auto)]
 
 mod numbers;

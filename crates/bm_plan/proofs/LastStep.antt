@@ -7,15 +7,15 @@ use Rattle.spec_terms.specs.declared.path.PathStep.TheVariants.{Branch as To, Pa
 use Rattle.spec_tool.specs.Weights.{last_branch, position_of}
 use Rattle.bm_plan.specs.Listed.{step_branch}
 
-front_from : (s : PathStep) (rest : List PathStep) → position_of (s ∷ rest) ≡ take (length rest) (s ∷ rest)
-front_from s [] = refl
-front_from s (t ∷ rest) = ap (λ steps. s ∷ steps) (front_from t rest)
+prefix_from : (s : PathStep) (rest : List PathStep) → position_of (s ∷ rest) ≡ take (length rest) (s ∷ rest)
+prefix_from s [] = refl
+prefix_from s (t ∷ rest) = ap (λ steps. s ∷ steps) (prefix_from t rest)
 
-pub position_is_front : (path : List PathStep) → position_of path ≡ take (length path - 1) path
-position_is_front [] = refl
-position_is_front (s ∷ rest) =
+pub position_is_prefix : (path : List PathStep) → position_of path ≡ take (length path - 1) path
+position_is_prefix [] = refl
+position_is_prefix (s ∷ rest) =
     let e : length (s ∷ rest) - 1 ≡ length rest = omega arith in
-    rw e (front_from s rest)
+    rw e (prefix_from s rest)
 
 last_from : (s : PathStep) (rest : List PathStep)
     → last_branch (s ∷ rest) ≡ option_map_or step_branch (slice_get (s ∷ rest) (length rest)) 0

@@ -17,7 +17,7 @@ use std::alloc::Global;
 /// Of a contract's initial transaction and then of each path, in the order of the text, its weight and its total: the weights
 /// of all transactions that lead there, the initial one's included. The numbers are weight units of BIP 141, of witnesses
 /// with signatures of 66 bytes, least with secrets of 16 bytes and most with secrets of 520. A transaction or a script of
-/// 4 GiB or more, and a total of more than 64 bits, are taken for want of memory.
+/// 4 GiB or more, and a total of more than 64 bits, count as out of memory.
 pub fn weigh(
     alloc: Global,
     checked: &Checked,

@@ -22,7 +22,7 @@ fn put_count(alloc: Global, out: &mut Vec<u8>, word: &[u8], number: u64) -> Resu
     put(out, b"\n")
 }
 
-// The value of all outputs, in satoshi; one of more than 64 bits is taken for want of memory.
+// The value of all outputs, in satoshi; one of more than 64 bits counts as out of memory.
 fn value_of(live: &[(u32, u64)]) -> Result<u64, OutOfMemory>
     ensures { IfOk result (λ value. value ≡ sum_by (λ o. o.1) live.now) }
 {
@@ -68,7 +68,7 @@ fn told(
 
 /// How many events and steps a run has, how many deposits and contracts are there at its end, and
 /// what its live outputs are worth in satoshi. Values of more than 64 bits together, which no run
-/// has, are taken for want of memory.
+/// has, count as out of memory.
 pub fn counts_text(
     alloc: Global,
     events: u64,

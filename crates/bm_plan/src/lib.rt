@@ -1,5 +1,5 @@
-//! What is told of a contract that is compiled: its transactions, and what it costs on chain, the weight of each of its transactions,
-//! by BIP 141, and of the way to each of its paths. And what is told of a run in numbers.
+//! The texts of `plan` and `weigh`: a compiled contract's scripts, transactions and digests, and what each transaction
+//! weighs at least and at most. It also counts a run for `make`.
 #![tactic(auto)]
 
 mod compiled;
@@ -16,7 +16,7 @@ mod weights;
 pub use compiled::weigh;
 pub use counts::counts_text;
 pub use listed::weigh_listed;
-pub use paths::{front_of, last_branch, position_of};
+pub use paths::{last_branch, position_of, prefix_of};
 pub use plan::plan_text;
 pub use spec_tool::Weight;
 pub use weights::weigh_text;

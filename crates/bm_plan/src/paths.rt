@@ -14,8 +14,8 @@ use spec_data::{Bytes, OutOfMemory};
 use std::alloc::Global;
 
 /// The steps to the position whose branch or part the path is.
-#[tactic(auto, using(crate::proofs::LastStep::position_is_front))]
-pub fn front_of(path: &Path) -> &[PathStep]
+#[tactic(auto, using(crate::proofs::LastStep::position_is_prefix))]
+pub fn prefix_of(path: &Path) -> &[PathStep]
     ensures { result.now ≡ spec.position_of path.now }
 {
     let steps = path.steps();
@@ -26,7 +26,7 @@ pub fn front_of(path: &Path) -> &[PathStep]
 pub fn position_of(alloc: Global, path: &Path) -> Result<Path, OutOfMemory>
     ensures { IfOk result (λ position. position ≡ spec.position_of path.now) }
 {
-    Ok(Path::of(Vec::from_slice(alloc, front_of(path))?))
+    Ok(Path::of(Vec::from_slice(alloc, prefix_of(path))?))
 }
 
 // The number of the branch that a step leads to.

@@ -21,7 +21,7 @@ pub(crate) struct Sizes {
     pub puts: u32,
 }
 
-// A number of 32 bits; a greater one is taken for want of memory.
+// A number of 32 bits; a greater one counts as out of memory.
 pub(crate) fn narrow(number: usize) -> Result<u32, OutOfMemory>
     ensures { IfOk result (λ n. n ≡ number) }
 {

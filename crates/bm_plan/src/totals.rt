@@ -8,7 +8,7 @@ use spec_data::OutOfMemory;
 use spec_tool::Weight;
 use std::alloc::{AllocError, Global};
 
-// Two weights together; a sum of more than 64 bits is taken for want of memory.
+// Two weights together; a sum of more than 64 bits counts as out of memory.
 fn added(one: Weight, other: Weight) -> Result<Weight, OutOfMemory>
     ensures { IfOk result (λ sum. sum ≡ spec.added one other) }
 {
@@ -27,12 +27,12 @@ fn is_on_way(path: &Path, to: &Path) -> bool
 {
     let count = path.steps().len();
     let steps = to.steps();
-    let front = if count < steps.len() {
+    let prefix = if count < steps.len() {
         &steps[..count]
     } else {
         steps
     };
-    path.steps() == front
+    path.steps() == prefix
 }
 
 // This sum and, where the path is on the way, its weight.

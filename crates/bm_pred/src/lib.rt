@@ -1,5 +1,5 @@
-//! Predicates of the lengths of secrets: whether they are true, how far their expressions can get from zero, and the size of the
-//! scripts that test them.
+//! Predicates on the lengths of secrets: whether one is true, how large its numbers can get, and how long its script
+//! is. The check refuses by it what Bitcoin's numbers can't hold.
 #![tactic(auto)]
 
 pub mod bounds;

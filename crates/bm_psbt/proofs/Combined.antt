@@ -10,14 +10,16 @@ use Rattle.theory_psbt.proofs.Combining.{combined_is_psbt}
 pub other_answer : (a b : Psbt) (x y : Tx) → x ≡ a.tx → y ≡ b.tx → same_bare x y ≡ false → combined a b ≡ Err other_tx
 other_answer a b x y e f h = let t : same_bare a.tx b.tx ≡ false = rw (← e, ← f) h in rw t refl
 
-pub conflict_answer : (a b : Psbt) (x y : Tx) (xs ys : List PsbtInput) (k : ℕ) → x ≡ a.tx → y ≡ b.tx → same_bare x y ≡ true → xs ≡ a.inputs → ys ≡ b.inputs → Some k ≡ first_conflict 0 xs ys
+pub conflict_answer : (a b : Psbt) (x y : Tx) (xs ys : List PsbtInput) (k : ℕ) → x ≡ a.tx → y ≡ b.tx → same_bare x y ≡ true → xs ≡ a.inputs
+    → ys ≡ b.inputs → Some k ≡ first_conflict 0 xs ys
     → combined a b ≡ Err (conflict k)
 conflict_answer a b x y xs ys k e f h g l c =
     let t : same_bare a.tx b.tx ≡ true = rw (← e, ← f) h in
     let q : Some k ≡ first_conflict 0 a.inputs b.inputs = rw (← g, ← l) c in
     rw (t, ← q) refl
 
-pub joined_answer : (a b p : Psbt) (x y copy : Tx) (xs ys all : List PsbtInput) → x ≡ a.tx → y ≡ b.tx → same_bare x y ≡ true → xs ≡ a.inputs → ys ≡ b.inputs → None ≡ first_conflict 0 xs ys
+pub joined_answer : (a b p : Psbt) (x y copy : Tx) (xs ys all : List PsbtInput) → x ≡ a.tx → y ≡ b.tx → same_bare x y ≡ true → xs ≡ a.inputs
+    → ys ≡ b.inputs → None ≡ first_conflict 0 xs ys
     → copy ≡ x → all ≡ inputs_joined xs ys → p ≡ record { tx = copy; inputs = all } → combined a b ≡ Ok p
 joined_answer a b p x y copy xs ys all e f h g l c n m s =
     let t : same_bare a.tx b.tx ≡ true = rw (← e, ← f) h in
@@ -25,6 +27,7 @@ joined_answer a b p x y copy xs ys all e f h g l c n m s =
     rw (t, ← q, s, n, e, m, g, l) refl
 
 -- what is joined is one
-pub joined_is_psbt : (a b : Psbt) (x copy : Tx) (xs ys all : List PsbtInput) → is_psbt a ≡ true → x ≡ a.tx → xs ≡ a.inputs → ys ≡ b.inputs → copy ≡ x → all ≡ inputs_joined xs ys
+pub joined_is_psbt : (a b : Psbt) (x copy : Tx) (xs ys all : List PsbtInput) → is_psbt a ≡ true → x ≡ a.tx → xs ≡ a.inputs → ys ≡ b.inputs
+    → copy ≡ x → all ≡ inputs_joined xs ys
     → is_psbt (record { tx = copy; inputs = all }) ≡ true
 joined_is_psbt a b x copy xs ys all h e g l n m = rw (n, e, m, g, l) (combined_is_psbt a b h)

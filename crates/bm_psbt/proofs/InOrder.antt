@@ -28,7 +28,8 @@ are_new others (r ∷ rs) = not (is_among (r.0) (names_of others)) && are_new (i
 
 -- ---- keys that are new
 
-put_among : (key : List ℕ) (r : Pairing) (ss : List Pairing) → is_among key (names_of (insert_signature r ss)) ≡ (bytes_eq (r.0) key || is_among key (names_of ss))
+put_among : (key : List ℕ) (r : Pairing) (ss : List Pairing) → is_among key (names_of (insert_signature r ss))
+    ≡ (bytes_eq (r.0) key || is_among key (names_of ss))
 put_among key r [] = refl
 put_among key r (s ∷ ss) = by_place (is_before (r.0) (s.0)) (put_among key r ss)
   where
@@ -38,7 +39,8 @@ put_among key r (s ∷ ss) = by_place (is_before (r.0) (s.0)) (put_among key r s
     swap false b c = refl
 
     by_place : (t : Bool) → is_among key (names_of (insert_signature r ss)) ≡ (bytes_eq (r.0) key || is_among key (names_of ss))
-        → is_among key (names_of (if t then r ∷ (s ∷ ss) else s ∷ insert_signature r ss)) ≡ (bytes_eq (r.0) key || (bytes_eq (s.0) key || is_among key (names_of ss)))
+        → is_among key (names_of (if t then r ∷ (s ∷ ss) else s ∷ insert_signature r ss))
+        ≡ (bytes_eq (r.0) key || (bytes_eq (s.0) key || is_among key (names_of ss)))
     by_place true later = refl
     by_place false later = ap (λ (b : Bool). bytes_eq (s.0) key || b) later ∙ swap (bytes_eq (r.0) key) (bytes_eq (s.0) key) (is_among key (names_of ss))
 
@@ -91,7 +93,8 @@ new_different rs = new_is [] rs ∙ ap (λ (b : Bool). are_different (names_of r
 
 -- ---- what is in order
 
-ascends_among : (others rs : List Pairing) → are_ascending (names_of others) ≡ true → are_new others rs ≡ true → are_ascending (names_of (put_all others rs)) ≡ true
+ascends_among : (others rs : List Pairing) → are_ascending (names_of others) ≡ true → are_new others rs ≡ true
+    → are_ascending (names_of (put_all others rs)) ≡ true
 ascends_among others [] h new = h
 ascends_among others (r ∷ rs) h new =
     let first = not_yes _ (and_left _ _ new) in
@@ -100,15 +103,18 @@ ascends_among others (r ∷ rs) h new =
 pub ascends : (rs : List Pairing) → are_different (names_of rs) ≡ true → are_ascending (names_of (put_all [] rs)) ≡ true
 ascends rs h = ascends_among [] rs refl (new_different rs ∙ h)
 
-found_among : (key : List ℕ) (others rs : List Pairing) → are_different (names_of rs) ≡ true → are_new others rs ≡ true → look_up key (put_all others rs) ≡ option_or (look_up key rs) (look_up key others)
+found_among : (key : List ℕ) (others rs : List Pairing) → are_different (names_of rs) ≡ true → are_new others rs ≡ true
+    → look_up key (put_all others rs) ≡ option_or (look_up key rs) (look_up key others)
 found_among key others [] d new = refl
 found_among key others (r ∷ rs) d new =
     let first = not_yes _ (and_left _ _ new) in
-    found_among key (insert_signature r others) rs (and_right (not (is_among (r.0) (names_of rs))) _ d) (and_right (not (is_among (r.0) (names_of others))) _ new)
+    found_among key (insert_signature r others) rs (and_right (not (is_among (r.0) (names_of rs))) _ d)
+    (and_right (not (is_among (r.0) (names_of others))) _ new)
     ∙ ap (λ (o : Option (List ℕ)). option_or (look_up key rs) o) (put_found key r others first)
     ∙ by_key (bytes_eq (r.0) key) refl
   where
-    by_key : (t : Bool) → bytes_eq (r.0) key ≡ t → option_or (look_up key rs) (if t then Some (r.1) else look_up key others) ≡ option_or (if t then Some (r.1) else look_up key rs) (look_up key others)
+    by_key : (t : Bool) → bytes_eq (r.0) key ≡ t → option_or (look_up key rs) (if t then Some (r.1) else look_up key others)
+        ≡ option_or (if t then Some (r.1) else look_up key rs) (look_up key others)
     by_key true e =
         let absent : look_up (r.0) rs ≡ None = look_none (r.0) rs (not_yes _ (and_left _ _ d)) in
         let gone : look_up key rs ≡ None = subst (λ (x : List ℕ). look_up x rs ≡ None) (same_bytes (r.0) key e) absent in
@@ -131,14 +137,16 @@ put_each : (f : Pairing → Bool) (r : Pairing) (ss : List Pairing) → list_all
 put_each f r [] = refl
 put_each f r (s ∷ ss) = by_place (is_before (r.0) (s.0)) (put_each f r ss)
   where
-    by_place : (t : Bool) → list_all f (insert_signature r ss) ≡ (f r && list_all f ss) → list_all f (if t then r ∷ (s ∷ ss) else s ∷ insert_signature r ss) ≡ (f r && (f s && list_all f ss))
+    by_place : (t : Bool) → list_all f (insert_signature r ss) ≡ (f r && list_all f ss)
+        → list_all f (if t then r ∷ (s ∷ ss) else s ∷ insert_signature r ss) ≡ (f r && (f s && list_all f ss))
     by_place true later = refl
     by_place false later = ap (λ (b : Bool). f s && b) later ∙ swap_and (f r) (f s) (list_all f ss)
 
 each_among : (f : Pairing → Bool) (others rs : List Pairing) → list_all f (put_all others rs) ≡ (list_all f rs && list_all f others)
 each_among f others [] = refl
 each_among f others (r ∷ rs) =
-    each_among f (insert_signature r others) rs ∙ ap (λ (b : Bool). list_all f rs && b) (put_each f r others) ∙ regroup (f r) (list_all f rs) (list_all f others)
+    each_among f (insert_signature r others) rs ∙ ap (λ (b : Bool). list_all f rs && b) (put_each f r others)
+    ∙ regroup (f r) (list_all f rs) (list_all f others)
   where
     regroup : (a b c : Bool) → (b && (a && c)) ≡ ((a && b) && c)
     regroup true b c = refl
@@ -168,7 +176,8 @@ signatures_before : (key : List ℕ) (rs : List Pairing) → Before (2 ∷ key) 
 signatures_before key [] h = tt
 signatures_before key (r ∷ rs) h = by_type (eqb (type_of r) 2) refl (signatures_before key rs h.1)
   where
-    by_type : (t : Bool) → eqb (type_of r) 2 ≡ t → Before key (names_of (signatures_in rs)) → Before key (names_of (if t then (key_behind_type (r.0), r.1) ∷ signatures_in rs else signatures_in rs))
+    by_type : (t : Bool) → eqb (type_of r) 2 ≡ t → Before key (names_of (signatures_in rs))
+        → Before key (names_of (if t then (key_behind_type (r.0), r.1) ∷ signatures_in rs else signatures_in rs))
     by_type true e later = (subst (λ (x : List ℕ). is_before (2 ∷ key) x ≡ true) (sym (whole_key (r.0) (r.1) e)) h.0, later)
     by_type false e later = later
 
@@ -176,7 +185,8 @@ signatures_ascend : (rs : List Pairing) → are_ascending (names_of rs) ≡ true
 signatures_ascend [] h = refl
 signatures_ascend (r ∷ rs) h = by_type (eqb (type_of r) 2) refl (signatures_ascend rs (others_ascend (r.0) (names_of rs) h))
   where
-    by_type : (t : Bool) → eqb (type_of r) 2 ≡ t → are_ascending (names_of (signatures_in rs)) ≡ true → are_ascending (names_of (if t then (key_behind_type (r.0), r.1) ∷ signatures_in rs else signatures_in rs)) ≡ true
+    by_type : (t : Bool) → eqb (type_of r) 2 ≡ t → are_ascending (names_of (signatures_in rs)) ≡ true
+        → are_ascending (names_of (if t then (key_behind_type (r.0), r.1) ∷ signatures_in rs else signatures_in rs)) ≡ true
     by_type true e later =
         let before : Before (2 ∷ key_behind_type (r.0)) (names_of rs) = subst (λ (x : List ℕ). Before x (names_of rs)) (sym (whole_key (r.0) (r.1) e)) (first_before (r.0) (names_of rs) h) in
         ascend_with (key_behind_type (r.0)) (names_of (signatures_in rs)) (signatures_before (key_behind_type (r.0)) rs before) later

@@ -26,14 +26,17 @@ pub record Turned (xs next all : List PsbtInput) (i : ℕ) (total : List PsbtInp
   pub others : list_all signs_ascend next ≡ true
   pub whole : all ++ inputs_joined (drop (i + 1) xs) next ≡ total
 
-pub joined_turn : (inputs others next all all2 : List PsbtInput) (i : ℕ) (x : PsbtInput) (total : List PsbtInput) → i < length inputs → x ≡ get_or inputs i x → list_all signs_ascend (drop i inputs) ≡ true
-    → list_all signs_ascend others ≡ true → all2 ≡ all ++ joined_head x others ∷ [] → next ≡ tail_of others → all ++ inputs_joined (drop i inputs) others ≡ total → Turned inputs next all2 i total
+pub joined_turn : (inputs others next all all2 : List PsbtInput) (i : ℕ) (x : PsbtInput) (total : List PsbtInput) → i < length inputs → x
+    ≡ get_or inputs i x → list_all signs_ascend (drop i inputs) ≡ true
+    → list_all signs_ascend others ≡ true → all2 ≡ all ++ joined_head x others ∷ [] → next ≡ tail_of others → all
+    ++ inputs_joined (drop i inputs) others ≡ total → Turned inputs next all2 i total
 joined_turn inputs others next all all2 i x total lt at a b e is so_far =
     let n : suc i ≡ i + 1 = omega arith in
     let cut : drop i inputs ≡ x ∷ drop (i + 1) inputs = drop-cons inputs i x lt ∙ (λ k. sym at k ∷ drop (n k) inputs) in
-    let front : all2 ++ inputs_joined (drop (i + 1) inputs) next ≡ all ++ (joined_head x others ∷ inputs_joined (drop (i + 1) inputs) (tail_of others)) = rw (e, is) (simp append_assoc) in
+    let prefix : all2 ++ inputs_joined (drop (i + 1) inputs) next ≡ all ++ (joined_head x others ∷ inputs_joined (drop (i + 1) inputs) (tail_of others)) = rw (e, is) (simp append_assoc) in
     record {
       inputs = and_right (signs_ascend x) (list_all signs_ascend (drop (i + 1) inputs)) (subst (λ (l : List PsbtInput). list_all signs_ascend l ≡ true) cut a);
       others = subst (λ (l : List PsbtInput). list_all signs_ascend l ≡ true) (sym is) (tail_ascends others b);
-      whole = front ∙ ap (λ (l : List PsbtInput). all ++ l) (sym (joined_step x (drop (i + 1) inputs) others) ∙ ap (λ (l : List PsbtInput). inputs_joined l others) (sym cut)) ∙ so_far;
+      whole = prefix ∙ ap (λ (l : List PsbtInput). all ++ l)
+          (sym (joined_step x (drop (i + 1) inputs) others) ∙ ap (λ (l : List PsbtInput). inputs_joined l others) (sym cut)) ∙ so_far;
     }

@@ -63,7 +63,8 @@ put_value others key value = given (not (is_among key (names_of others))) (inser
 abbrev put_key : List Pairing → List ℕ × List ℕ → Read
 put_key others key = taken (string_at (key.1)) >>= put_value others (key.0)
 
-at_value : (n : ℕ) (others : List Pairing) (key : List ℕ) (o : Option (List ℕ × List ℕ)) → ((acc : List Pairing) (bytes : List ℕ) → gathered n acc bytes ≡ (records_at n bytes >>= put_if_new acc))
+at_value : (n : ℕ) (others : List Pairing) (key : List ℕ) (o : Option (List ℕ × List ℕ))
+    → ((acc : List Pairing) (bytes : List ℕ) → gathered n acc bytes ≡ (records_at n bytes >>= put_if_new acc))
     → ((o >>= put_value others key) >>= goes_on n) ≡ ((o >>= behind_value n key) >>= put_if_new others)
 at_value n others key None later = refl
 at_value n others key (Some value) later =
@@ -71,7 +72,8 @@ at_value n others key (Some value) later =
     ∙ ap (λ (o : Read). only_if (not (is_among key (names_of others))) o) (later (insert_signature (key, value.0) others) (value.1))
     ∙ sym (record_first (key, value.0) others (records_at n (value.1)))
 
-at_key : (n : ℕ) (others : List Pairing) (o : Option (List ℕ × List ℕ)) → ((acc : List Pairing) (bytes : List ℕ) → gathered n acc bytes ≡ (records_at n bytes >>= put_if_new acc))
+at_key : (n : ℕ) (others : List Pairing) (o : Option (List ℕ × List ℕ))
+    → ((acc : List Pairing) (bytes : List ℕ) → gathered n acc bytes ≡ (records_at n bytes >>= put_if_new acc))
     → ((o >>= put_key others) >>= goes_on n) ≡ ((o >>= behind_key n) >>= put_if_new others)
 at_key n others None later = refl
 at_key n others (Some key) later = at_value n others (key.0) (taken (string_at (key.1))) later
@@ -82,8 +84,10 @@ gathered_is zero others bytes = refl
 gathered_is (suc n) others [] = refl
 gathered_is (suc n) others (b ∷ bytes) = by_zero (eqb b 0) (at_key n others (taken (string_at (b ∷ bytes))) (gathered_is n))
   where
-    by_zero : (t : Bool) → ((taken (string_at (b ∷ bytes)) >>= put_key others) >>= goes_on n) ≡ ((taken (string_at (b ∷ bytes)) >>= behind_key n) >>= put_if_new others)
-        → (if t then Some (others, bytes) else ((taken (string_at (b ∷ bytes)) >>= put_key others) >>= goes_on n)) ≡ ((if t then Some ([], bytes) else (taken (string_at (b ∷ bytes)) >>= behind_key n)) >>= put_if_new others)
+    by_zero : (t : Bool) → ((taken (string_at (b ∷ bytes)) >>= put_key others) >>= goes_on n)
+        ≡ ((taken (string_at (b ∷ bytes)) >>= behind_key n) >>= put_if_new others)
+        → (if t then Some (others, bytes) else ((taken (string_at (b ∷ bytes)) >>= put_key others) >>= goes_on n))
+        ≡ ((if t then Some ([], bytes) else (taken (string_at (b ∷ bytes)) >>= behind_key n)) >>= put_if_new others)
     by_zero true later = refl
     by_zero false later = later
 
@@ -147,7 +151,8 @@ other_inputs n first = inputs_at n (first.1) >>= with_input (first.0)
 abbrev other_maps : ℕ → List Pairing × List ℕ → Option (List (List Pairing) × List ℕ)
 other_maps n first = maps_at n (first.1) >>= with_map (first.0)
 
-then_others : (n : ℕ) (i : Option PsbtInput) (rest : List ℕ) → ((i >>= λ input. Some (input, rest)) >>= other_inputs n) ≡ (i >>= λ input. inputs_at n rest >>= with_input input)
+then_others : (n : ℕ) (i : Option PsbtInput) (rest : List ℕ) → ((i >>= λ input. Some (input, rest)) >>= other_inputs n)
+    ≡ (i >>= λ input. inputs_at n rest >>= with_input input)
 then_others n None rest = refl
 then_others n (Some input) rest = refl
 
@@ -159,7 +164,8 @@ unfolding inputs_at maps_at input_at
 said_is zero bytes = refl
 said_is (suc n) bytes = ap (λ (o : Read). (o >>= first_input) >>= other_inputs n) (ordered_is bytes) ∙ by_map (map_at bytes) refl (said_is n)
   where
-    by_map : (o : Read) → map_at bytes ≡ o → ((rest : List ℕ) → inputs_at n rest ≡ (maps_at n rest >>= all_said)) → (((o >>= in_order) >>= first_input) >>= other_inputs n) ≡ ((o >>= other_maps n) >>= all_said)
+    by_map : (o : Read) → map_at bytes ≡ o → ((rest : List ℕ) → inputs_at n rest ≡ (maps_at n rest >>= all_said))
+        → (((o >>= in_order) >>= first_input) >>= other_inputs n) ≡ ((o >>= other_maps n) >>= all_said)
     by_map None e later = refl
     by_map (Some m) e later =
         then_others n (input_in (put_all [] (m.0))) (m.1)
@@ -184,7 +190,8 @@ unfolding behind_maps maps_at
 behind_is zero bytes = refl
 behind_is (suc n) bytes = ap (λ (o : Read). o >>= next_behind n) (ordered_is bytes) ∙ by_map (map_at bytes) (behind_is n)
   where
-    by_map : (o : Read) → ((rest : List ℕ) → behind_maps n rest ≡ rest_maps (maps_at n rest)) → ((o >>= in_order) >>= next_behind n) ≡ rest_maps (o >>= other_maps n)
+    by_map : (o : Read) → ((rest : List ℕ) → behind_maps n rest ≡ rest_maps (maps_at n rest)) → ((o >>= in_order) >>= next_behind n)
+        ≡ rest_maps (o >>= other_maps n)
     by_map None later = refl
     by_map (Some m) later = later (m.1) ∙ sym (rest_with (m.0) (maps_at n (m.1)))
 
@@ -227,13 +234,15 @@ inputs_end tx (Some m) = by_said (inputs_of (m.0))
   where
     by_said : (o : Option (List PsbtInput)) → ((o >>= λ said. Some (said, m.1)) >>= behind_inputs tx) ≡ (o >>= behind_said tx (m.1))
     by_said None = refl
-    by_said (Some said) = ap (λ (o : Option (List ℕ)). o >>= at_end tx said) (behind_is (length tx.outputs) (m.1)) ∙ end_is tx said (maps_at (length tx.outputs) (m.1))
+    by_said (Some said) =
+        ap (λ (o : Option (List ℕ)). o >>= at_end tx said) (behind_is (length tx.outputs) (m.1)) ∙ end_is tx said (maps_at (length tx.outputs) (m.1))
 
 tx_end : (rest : List ℕ) (o : Option Tx) → (o >>= behind_tx rest) ≡ (o >>= maps_behind_tx rest)
 tx_end rest None = refl
 tx_end rest (Some tx) = ap (λ (o : Said). o >>= behind_inputs tx) (said_is (length tx.inputs) rest) ∙ inputs_end tx (maps_at (length tx.inputs) rest)
 
-global_end : (bytes : List ℕ) (o : Read) → map_at bytes ≡ o → ((o >>= in_order) >>= behind_global) ≡ (o >>= λ global. global_of (global.0) >>= maps_behind_tx (global.1))
+global_end : (bytes : List ℕ) (o : Read) → map_at bytes ≡ o → ((o >>= in_order) >>= behind_global)
+    ≡ (o >>= λ global. global_of (global.0) >>= maps_behind_tx (global.1))
 global_end bytes None e = refl
 global_end bytes (Some m) e = ap (λ (o : Option Tx). o >>= behind_tx (m.1)) (global_same (m.0) (different bytes m e)) ∙ tx_end (m.1) (global_of (m.0))
 
@@ -241,6 +250,7 @@ pub one_pass : (bytes : List ℕ) → psbt_in_order bytes ≡ psbt_of bytes
 unfolding behind_magic_in_order psbt_of
 one_pass bytes = by_magic (behind magic bytes)
   where
-    by_magic : (o : Option (List ℕ)) → (o >>= λ maps. ordered_at maps >>= behind_global) ≡ (o >>= λ maps. map_at maps >>= λ global. global_of (global.0) >>= maps_behind_tx (global.1))
+    by_magic : (o : Option (List ℕ)) → (o >>= λ maps. ordered_at maps >>= behind_global)
+        ≡ (o >>= λ maps. map_at maps >>= λ global. global_of (global.0) >>= maps_behind_tx (global.1))
     by_magic None = refl
     by_magic (Some maps) = ap (λ (r : Read). r >>= behind_global) (ordered_is maps) ∙ global_end maps (map_at maps) refl

@@ -57,11 +57,13 @@ put_in_order key value (e ∷ es) new = by_order (key_cmp key e.0) refl (put_in_
     by_order Greater is later = let t : is_before key.now e.0.now ≡ false = sym (before_cmp key.now e.0.now Greater (sym is)) in rw (is, t) (ap (λ (l : List Pairing). (e.0.now, e.1.now) ∷ l) later)
 
 -- whether a key is there
-pub there : (key : List ℕ) (es : List (Bor (List ℕ) × Bor (List ℕ))) (v : Bor (List ℕ)) → lookup (is_key key) es ≡ Some v → is_among key (names_of (pairs es)) ≡ true
+pub there : (key : List ℕ) (es : List (Bor (List ℕ) × Bor (List ℕ))) (v : Bor (List ℕ)) → lookup (is_key key) es ≡ Some v
+    → is_among key (names_of (pairs es)) ≡ true
 there key [] v h = absurd cc
 there key (e ∷ es) v h = by_key (is_key key (e.0)) (is_eq-slice_cmp key e.0.now) h (there key es v)
   where
-    by_key : (t : Bool) → t ≡ bytes_eq key e.0.now → cond t (Some (e.1)) (lookup (is_key key) es) ≡ Some v → (lookup (is_key key) es ≡ Some v → is_among key (names_of (pairs es)) ≡ true)
+    by_key : (t : Bool) → t ≡ bytes_eq key e.0.now → cond t (Some (e.1)) (lookup (is_key key) es) ≡ Some v
+        → (lookup (is_key key) es ≡ Some v → is_among key (names_of (pairs es)) ≡ true)
         → (bytes_eq e.0.now key || is_among key (names_of (pairs es))) ≡ true
     by_key true e1 q later = or_yes _ _ (bytes_eq-back e.0.now key ∙ sym e1)
     by_key false e1 q later = let f : bytes_eq e.0.now key ≡ false = bytes_eq-back e.0.now key ∙ sym e1 in rw f (later q)
@@ -70,26 +72,30 @@ pub not_there : (key : List ℕ) (es : List (Bor (List ℕ) × Bor (List ℕ))) 
 not_there key [] h = refl
 not_there key (e ∷ es) h = by_key (is_key key (e.0)) (is_eq-slice_cmp key e.0.now) h (not_there key es)
   where
-    by_key : (t : Bool) → t ≡ bytes_eq key e.0.now → cond t (Some (e.1)) (lookup (is_key key) es) ≡ None → (lookup (is_key key) es ≡ None → is_among key (names_of (pairs es)) ≡ false)
+    by_key : (t : Bool) → t ≡ bytes_eq key e.0.now → cond t (Some (e.1)) (lookup (is_key key) es) ≡ None
+        → (lookup (is_key key) es ≡ None → is_among key (names_of (pairs es)) ≡ false)
         → (bytes_eq e.0.now key || is_among key (names_of (pairs es))) ≡ false
     by_key true e1 q later = absurd cc
     by_key false e1 q later = or_no _ _ (bytes_eq-back e.0.now key ∙ sym e1) (later q)
 
-pub put_new : (records next : List (Bor (List ℕ) × Bor (List ℕ))) (bytes after rest : List ℕ) (key value : Bor (List ℕ)) → string_at bytes ≡ Ok (key.now, after) → string_at after ≡ Ok (value.now, rest)
+pub put_new : (records next : List (Bor (List ℕ) × Bor (List ℕ))) (bytes after rest : List ℕ) (key value : Bor (List ℕ)) → string_at bytes
+    ≡ Ok (key.now, after) → string_at after ≡ Ok (value.now, rest)
     → None ≡ lookup (is_key key.now) records → next ≡ insert_entry key_cmp records key value → one_put (pairs records) bytes ≡ Some (pairs next, rest)
 unfolding one_put
 put_new records next bytes after rest key value k v old is =
     let new = not_there key.now records (sym old) in
     rw (k, v, new, is) (ap (λ (l : List Pairing). Some (l, rest)) (sym (put_in_order key value records new)))
 
-pub put_again : (records : List (Bor (List ℕ) × Bor (List ℕ))) (bytes after rest : List ℕ) (key value had : Bor (List ℕ)) → string_at bytes ≡ Ok (key.now, after) → string_at after ≡ Ok (value.now, rest)
+pub put_again : (records : List (Bor (List ℕ) × Bor (List ℕ))) (bytes after rest : List ℕ) (key value had : Bor (List ℕ)) → string_at bytes
+    ≡ Ok (key.now, after) → string_at after ≡ Ok (value.now, rest)
     → Some had ≡ lookup (is_key key.now) records → one_put (pairs records) bytes ≡ None
 unfolding one_put
 put_again records bytes after rest key value had k v old = rw (k, v, there key.now records had (sym old)) refl
 
 -- ---- all records
 
-pub gather_more : (n i : ℕ) (records next : List Pairing) (bytes after rest : List ℕ) (b : ℕ) (total : Option (List Pairing × List ℕ)) → i < n → bytes ≡ b ∷ rest → (b ≡ 0 → ⊥)
+pub gather_more : (n i : ℕ) (records next : List Pairing) (bytes after rest : List ℕ) (b : ℕ) (total : Option (List Pairing × List ℕ))
+    → i < n → bytes ≡ b ∷ rest → (b ≡ 0 → ⊥)
     → one_put records bytes ≡ Some (next, after) → gathered (n - i) records bytes ≡ total → gathered (n - (i + 1)) next after ≡ total
 unfolding gathered
 gather_more n i records next bytes after rest b total lt is some put so_far =
@@ -98,7 +104,8 @@ gather_more n i records next bytes after rest b total lt is some put so_far =
     let one : gathered (n - i) records bytes ≡ gathered (n - (i + 1)) next after = rw (k, is, f) (rw (← is) (rw put refl)) in
     sym one ∙ so_far
 
-pub gather_none : (n i : ℕ) (records : List Pairing) (bytes : List ℕ) (total : Option (List Pairing × List ℕ)) → i < n → bytes ≡ [] → gathered (n - i) records bytes ≡ total → total ≡ None
+pub gather_none : (n i : ℕ) (records : List Pairing) (bytes : List ℕ) (total : Option (List Pairing × List ℕ)) → i < n → bytes ≡ []
+    → gathered (n - i) records bytes ≡ total → total ≡ None
 unfolding gathered
 gather_none n i records bytes total lt none so_far =
     let k : n - i ≡ suc (n - (i + 1)) = omega arith in
@@ -113,7 +120,8 @@ gather_end n i records bytes rest b total lt is zero_is so_far =
     let one : gathered (n - i) records bytes ≡ Some (records, rest) = rw (k, is, zero_is) refl in
     sym so_far ∙ one
 
-pub gather_stop : (e : PsbtError) (n i : ℕ) (records : List Pairing) (bytes rest : List ℕ) (b : ℕ) (total : Option (List Pairing × List ℕ)) → i < n → bytes ≡ b ∷ rest → (b ≡ 0 → ⊥)
+pub gather_stop : (e : PsbtError) (n i : ℕ) (records : List Pairing) (bytes rest : List ℕ) (b : ℕ) (total : Option (List Pairing × List ℕ))
+    → i < n → bytes ≡ b ∷ rest → (b ≡ 0 → ⊥)
     → Fails e (one_put records bytes) → gathered (n - i) records bytes ≡ total → Fails e total
 unfolding gathered
 gather_stop Memory n i records bytes rest b total lt is some put so_far = tt
@@ -123,7 +131,8 @@ gather_stop BadPsbt n i records bytes rest b total lt is some put so_far =
     let one : gathered (n - i) records bytes ≡ None = rw (k, is, f) (rw (← is) (rw put refl)) in
     sym so_far ∙ one
 
-pub gather_past : (n i : ℕ) (records : List Pairing) (bytes : List ℕ) (total : Option (List Pairing × List ℕ)) → n ≤ i → gathered (n - i) records bytes ≡ total → total ≡ None
+pub gather_past : (n i : ℕ) (records : List Pairing) (bytes : List ℕ) (total : Option (List Pairing × List ℕ)) → n ≤ i
+    → gathered (n - i) records bytes ≡ total → total ≡ None
 unfolding gathered
 gather_past n i records bytes total le so_far =
     let k : n - i ≡ 0 = omega arith in

@@ -17,7 +17,8 @@ rest_more : {A : Type 0} (x : A) (read : Result (List A × List ℕ) ℕ) → re
 rest_more x (Ok others) = refl
 rest_more x (Err left) = refl
 
-pub behind_more : {A : Type 0} (read : List ℕ → Result (A × List ℕ) ℕ) (count i : ℕ) (bytes after : List ℕ) (x : A) (total : Option (List ℕ)) → i < count → read bytes ≡ Ok (x, after)
+pub behind_more : {A : Type 0} (read : List ℕ → Result (A × List ℕ) ℕ) (count i : ℕ) (bytes after : List ℕ) (x : A)
+    (total : Option (List ℕ)) → i < count → read bytes ≡ Ok (x, after)
     → rest_of (many read (count - i) bytes) ≡ total → rest_of (many read (count - (i + 1)) after) ≡ total
 unfolding many
 behind_more read count i bytes after x total lt h so_far =
@@ -25,7 +26,8 @@ behind_more read count i bytes after x total lt h so_far =
     let one : rest_of (many read (count - i) bytes) ≡ rest_of (many read (count - (i + 1)) after) = rw (k, h) (rest_more x (many read (count - (i + 1)) after)) in
     sym one ∙ so_far
 
-pub behind_stop : {A : Type 0} (read : List ℕ → Result (A × List ℕ) ℕ) (count i left : ℕ) (bytes : List ℕ) (total : Option (List ℕ)) → i < count → read bytes ≡ Err left
+pub behind_stop : {A : Type 0} (read : List ℕ → Result (A × List ℕ) ℕ) (count i left : ℕ) (bytes : List ℕ) (total : Option (List ℕ))
+    → i < count → read bytes ≡ Err left
     → rest_of (many read (count - i) bytes) ≡ total → None ≡ total
 unfolding many
 behind_stop read count i left bytes total lt h so_far =
@@ -44,34 +46,38 @@ behind_all read count i bytes total le so_far =
 -- ---- the strings themselves
 
 -- what was read before, and what is still read
-abbrev pub with_front : {A : Type 0} → List A → Result (List A × List ℕ) ℕ → Result (List A × List ℕ) ℕ
-with_front front read = read >>= λ x. Ok (front ++ x.0, x.1)
+abbrev pub with_prefix : {A : Type 0} → List A → Result (List A × List ℕ) ℕ → Result (List A × List ℕ) ℕ
+with_prefix prefix read = read >>= λ x. Ok (prefix ++ x.0, x.1)
 
-regroup : {A : Type 0} (front : List A) (n : A) (read : Result (List A × List ℕ) ℕ) → with_front front (read >>= with_first n) ≡ with_front (front ++ n ∷ []) read
-regroup {A} front n (Ok x) = ap (λ (ns : List A). Ok (ns, x.1)) (simp append_assoc)
-regroup front n (Err f) = refl
+regroup : {A : Type 0} (prefix : List A) (n : A) (read : Result (List A × List ℕ) ℕ) → with_prefix prefix (read >>= with_first n)
+    ≡ with_prefix (prefix ++ n ∷ []) read
+regroup {A} prefix n (Ok x) = ap (λ (ns : List A). Ok (ns, x.1)) (simp append_assoc)
+regroup prefix n (Err f) = refl
 
-pub items_more : {A : Type 0} (read : List ℕ → Result (A × List ℕ) ℕ) (front : List A) (count i : ℕ) (bytes : List ℕ) (n : A) (after : List ℕ) (total : Result (List A × List ℕ) ℕ) → i < count → read bytes ≡ Ok (n, after)
-    → with_front front (many read (count - i) bytes) ≡ total → with_front (front ++ n ∷ []) (many read (count - (i + 1)) after) ≡ total
+pub items_more : {A : Type 0} (read : List ℕ → Result (A × List ℕ) ℕ) (prefix : List A) (count i : ℕ) (bytes : List ℕ) (n : A)
+    (after : List ℕ) (total : Result (List A × List ℕ) ℕ) → i < count → read bytes ≡ Ok (n, after)
+    → with_prefix prefix (many read (count - i) bytes) ≡ total → with_prefix (prefix ++ n ∷ []) (many read (count - (i + 1)) after) ≡ total
 unfolding many
-items_more read front count i bytes n after total lt h so_far =
+items_more read prefix count i bytes n after total lt h so_far =
     let k : count - i ≡ suc (count - (i + 1)) = omega arith in
-    let one : with_front front (many read (count - i) bytes) ≡ with_front (front ++ n ∷ []) (many read (count - (i + 1)) after) = rw (k, h) (regroup front n (many read (count - (i + 1)) after)) in
+    let one : with_prefix prefix (many read (count - i) bytes) ≡ with_prefix (prefix ++ n ∷ []) (many read (count - (i + 1)) after) = rw (k, h) (regroup prefix n (many read (count - (i + 1)) after)) in
     sym one ∙ so_far
 
-pub items_stop : {A : Type 0} (read : List ℕ → Result (A × List ℕ) ℕ) (front : List A) (count i left : ℕ) (bytes : List ℕ) (total : Result (List A × List ℕ) ℕ) → i < count → read bytes ≡ Err left
-    → with_front front (many read (count - i) bytes) ≡ total → taken total ≡ None
+pub items_stop : {A : Type 0} (read : List ℕ → Result (A × List ℕ) ℕ) (prefix : List A) (count i left : ℕ) (bytes : List ℕ)
+    (total : Result (List A × List ℕ) ℕ) → i < count → read bytes ≡ Err left
+    → with_prefix prefix (many read (count - i) bytes) ≡ total → taken total ≡ None
 unfolding many
-items_stop {A} read front count i left bytes total lt h so_far =
+items_stop {A} read prefix count i left bytes total lt h so_far =
     let k : count - i ≡ suc (count - (i + 1)) = omega arith in
-    let one : with_front front (many read (count - i) bytes) ≡ Err left = rw (k, h) refl in
+    let one : with_prefix prefix (many read (count - i) bytes) ≡ Err left = rw (k, h) refl in
     ap (taken {A = List A}) (sym so_far ∙ one)
 
-pub items_done : {A : Type 0} (read : List ℕ → Result (A × List ℕ) ℕ) (front : List A) (count i : ℕ) (bytes : List ℕ) (total : Result (List A × List ℕ) ℕ) → count ≤ i → with_front front (many read (count - i) bytes) ≡ total → taken total ≡ Some (front, bytes)
+pub items_done : {A : Type 0} (read : List ℕ → Result (A × List ℕ) ℕ) (prefix : List A) (count i : ℕ) (bytes : List ℕ)
+    (total : Result (List A × List ℕ) ℕ) → count ≤ i → with_prefix prefix (many read (count - i) bytes) ≡ total → taken total ≡ Some (prefix, bytes)
 unfolding many
-items_done {A} read front count i bytes total le so_far =
+items_done {A} read prefix count i bytes total le so_far =
     let k : count - i ≡ 0 = omega arith in
-    let one : with_front front (many read (count - i) bytes) ≡ Ok (front, bytes) = rw k (ap (λ (ns : List A). Ok (ns, bytes)) (append-nil front)) in
+    let one : with_prefix prefix (many read (count - i) bytes) ≡ Ok (prefix, bytes) = rw k (ap (λ (ns : List A). Ok (ns, bytes)) (append-nil prefix)) in
     ap (taken {A = List A}) (sym so_far ∙ one)
 
 -- ---- all of the bytes

@@ -11,7 +11,8 @@ joined : (xs ys : List Pairing) → records_bytes (xs ++ ys) ≡ records_bytes x
 joined xs ys = flat_map-append pairing_bytes xs ys
 
 parts : (i : PsbtInput) → records_bytes (input_records i) ≡ records_bytes (part 1 output_bytes i.spent)
-    ++ (records_bytes (signature_records i.partial) ++ (records_bytes (all_part i.all) ++ (records_bytes (part 5 as_it_is i.script) ++ records_bytes (part 8 witness_bytes i.witness))))
+    ++ (records_bytes (signature_records i.partial)
+    ++ (records_bytes (all_part i.all) ++ (records_bytes (part 5 as_it_is i.script) ++ records_bytes (part 8 witness_bytes i.witness))))
 parts i =
     joined (part 1 output_bytes i.spent) _
     ∙ ap (λ (l : List ℕ). records_bytes (part 1 output_bytes i.spent) ++ l) (
@@ -23,11 +24,14 @@ parts i =
 regroup : (o a b c d e : List ℕ) → ((((o ++ a) ++ b) ++ c) ++ d) ++ e ≡ o ++ (a ++ (b ++ (c ++ (d ++ e))))
 regroup o a b c d e = simp append_assoc
 
-pub records_written : (i : PsbtInput) (o o1 o2 o3 o4 o5 : List ℕ) → o1 ≡ o ++ records_bytes (part 1 output_bytes i.spent) → o2 ≡ o1 ++ records_bytes (signature_records i.partial)
-    → o3 ≡ o2 ++ records_bytes (all_part i.all) → o4 ≡ o3 ++ records_bytes (part 5 as_it_is i.script) → o5 ≡ o4 ++ records_bytes (part 8 witness_bytes i.witness)
+pub records_written : (i : PsbtInput) (o o1 o2 o3 o4 o5 : List ℕ) → o1 ≡ o ++ records_bytes (part 1 output_bytes i.spent) → o2 ≡ o1
+    ++ records_bytes (signature_records i.partial)
+    → o3 ≡ o2 ++ records_bytes (all_part i.all) → o4 ≡ o3 ++ records_bytes (part 5 as_it_is i.script) → o5 ≡ o4
+    ++ records_bytes (part 8 witness_bytes i.witness)
     → o5 ≡ o ++ records_bytes (input_records i)
 records_written i o o1 o2 o3 o4 o5 e1 e2 e3 e4 e5 =
-    e5 ∙ rw (e4, e3, e2, e1) (regroup o (records_bytes (part 1 output_bytes i.spent)) (records_bytes (signature_records i.partial)) (records_bytes (all_part i.all)) (records_bytes (part 5 as_it_is i.script)) (records_bytes (part 8 witness_bytes i.witness)))
+    e5 ∙ rw (e4, e3, e2, e1) (regroup o (records_bytes (part 1 output_bytes i.spent)) (records_bytes (signature_records i.partial))
+    (records_bytes (all_part i.all)) (records_bytes (part 5 as_it_is i.script)) (records_bytes (part 8 witness_bytes i.witness)))
     ∙ ap (λ (l : List ℕ). o ++ l) (sym (parts i))
 
 pub map_written : (records : List Pairing) (o o5 o6 : List ℕ) → o5 ≡ o ++ records_bytes records → o6 ≡ o5 ++ 0 ∷ [] → o6 ≡ o ++ map_bytes records

@@ -12,7 +12,7 @@ use std::alloc::Global;
 pub enum Base64Error {
     /// It is no text of bytes: it has another symbol, other padding or bits left over.
     Bad,
-    /// Want of memory.
+    /// Out of memory.
     Memory,
 }
 

@@ -1,5 +1,5 @@
-//! Partially signed transactions by BIP 174, in this project's subset: their bytes both ways, and two of them combined; Base64, in which
-//! they are handed on, by RFC 4648, section 4.
+//! Partially signed transactions (BIP 174, the subset of docs/formats.md): reading, writing and combining them, and
+//! their Base64.
 #![tactic(auto)]
 
 mod base64_reading;

@@ -22,34 +22,34 @@ use Rattle.bm_psbt_plan.specs.Parts.{last_of, output_of, output_by, output_at}
 
 pub data Ends : List PathStep → Type 0 where
   nowhere : Ends []
-  further : (front : List PathStep) → (step : PathStep) → Ends (front ++ step ∷ [])
+  further : (prefix : List PathStep) → (step : PathStep) → Ends (prefix ++ step ∷ [])
 
 ends_more : (x : PathStep) (path : List PathStep) → Ends path → Ends (x ∷ path)
 ends_more x [] nowhere = further [] x
-ends_more x _ (further front step) = further (x ∷ front) step
+ends_more x _ (further prefix step) = further (x ∷ prefix) step
 
 pub ends : (path : List PathStep) → Ends path
 ends [] = nowhere
 ends (x ∷ path) = ends_more x path (ends path)
 
-pub position_of-further : (front : List PathStep) (step : PathStep) → position_of (front ++ step ∷ []) ≡ front
+pub position_of-further : (prefix : List PathStep) (step : PathStep) → position_of (prefix ++ step ∷ []) ≡ prefix
 position_of-further [] step = refl
 position_of-further (x ∷ []) step = refl
-position_of-further (x ∷ y ∷ front) step = ap (λ (rest : List PathStep). x ∷ rest) (position_of-further (y ∷ front) step)
+position_of-further (x ∷ y ∷ prefix) step = ap (λ (rest : List PathStep). x ∷ rest) (position_of-further (y ∷ prefix) step)
 
-get_last : (front : List PathStep) (step : PathStep) → slice_get (front ++ step ∷ []) (length front) ≡ Some step
+get_last : (prefix : List PathStep) (step : PathStep) → slice_get (prefix ++ step ∷ []) (length prefix) ≡ Some step
 get_last [] step = refl
-get_last (x ∷ front) step = get_last front step
+get_last (x ∷ prefix) step = get_last prefix step
 
-length_further : (front : List PathStep) (step : PathStep) → length (front ++ step ∷ []) ≡ suc (length front)
+length_further : (prefix : List PathStep) (step : PathStep) → length (prefix ++ step ∷ []) ≡ suc (length prefix)
 length_further [] step = refl
-length_further (x ∷ front) step = ap suc (length_further front step)
+length_further (x ∷ prefix) step = ap suc (length_further prefix step)
 
-last_of-further : (front : List PathStep) (step : PathStep) → last_of (front ++ step ∷ []) ≡ Some step
-last_of-further front step =
-    let e = length_further front step in
-    let n : length (front ++ step ∷ []) - 1 ≡ length front = omega (arith, e) in
-    ap (slice_get (front ++ step ∷ [])) n ∙ get_last front step
+last_of-further : (prefix : List PathStep) (step : PathStep) → last_of (prefix ++ step ∷ []) ≡ Some step
+last_of-further prefix step =
+    let e = length_further prefix step in
+    let n : length (prefix ++ step ∷ []) - 1 ≡ length prefix = omega (arith, e) in
+    ap (slice_get (prefix ++ step ∷ [])) n ∙ get_last prefix step
 
 module _ (hash : List ℕ → List ℕ) (s : Instance) where
   abbrev pub paid : Standing → TxOut
@@ -136,22 +136,22 @@ module _ (hash : List ℕ → List ℕ) (s : Instance) where
   by_last : (position : List PathStep) → Ends position → (here : Standing) (choice : Contract)
       → position_at hash s position ≡ Some (here, choice) → output_at position (numbered hash s) ≡ Some (paid here)
   by_last _ nowhere here choice e = ap (λ (p : Standing × Contract). Some (paid (p.0))) (some_same e)
-  by_last _ (further front (To i)) here choice e =
-      let path = front ++ To i ∷ [] in
+  by_last _ (further prefix (To i)) here choice e =
+      let path = prefix ++ To i ∷ [] in
       let start = at_position (root_standing hash s) s.advert.root in
-      let there : end_at hash s path ≡ option_and_then (next_end hash s (To i)) (end_at hash s front) = end_from-step hash s start front (To i) in
-      ap (λ (l : Option PathStep). output_by l path (numbered hash s)) (last_of-further front (To i))
+      let there : end_at hash s path ≡ option_and_then (next_end hash s (To i)) (end_at hash s prefix) = end_from-step hash s start prefix (To i) in
+      ap (λ (l : Option PathStep). output_by l path (numbered hash s)) (last_of-further prefix (To i))
       ∙ (ap (λ o. output_of o 0) (paths_are_listed hash s path)
       ∙ (ap (λ (o : Option PathEnd). output_of (option_map (prepared hash) (option_and_then (as_unsigned hash s) o)) 0) there
-      ∙ to_paid here i (end_at hash s front) choice (ap (option_and_then (as_position hash s)) (sym there) ∙ e)))
-  by_last _ (further front (Into k)) here choice e =
-      let path = front ++ Into k ∷ [] in
+      ∙ to_paid here i (end_at hash s prefix) choice (ap (option_and_then (as_position hash s)) (sym there) ∙ e)))
+  by_last _ (further prefix (Into k)) here choice e =
+      let path = prefix ++ Into k ∷ [] in
       let start = at_position (root_standing hash s) s.advert.root in
-      let there : end_at hash s path ≡ option_and_then (next_end hash s (Into k)) (end_at hash s front) = end_from-step hash s start front (Into k) in
-      ap (λ (l : Option PathStep). output_by l path (numbered hash s)) (last_of-further front (Into k))
-      ∙ (ap (λ (f : List PathStep). output_of (at_path f (compilation hash s).paths) k) (position_of-further front (Into k))
-      ∙ (ap (λ o. output_of o k) (paths_are_listed hash s front)
-      ∙ into_paid here k (end_at hash s front) choice (ap (option_and_then (as_position hash s)) (sym there) ∙ e)))
+      let there : end_at hash s path ≡ option_and_then (next_end hash s (Into k)) (end_at hash s prefix) = end_from-step hash s start prefix (Into k) in
+      ap (λ (l : Option PathStep). output_by l path (numbered hash s)) (last_of-further prefix (Into k))
+      ∙ (ap (λ (f : List PathStep). output_of (at_path f (compilation hash s).paths) k) (position_of-further prefix (Into k))
+      ∙ (ap (λ o. output_of o k) (paths_are_listed hash s prefix)
+      ∙ into_paid here k (end_at hash s prefix) choice (ap (option_and_then (as_position hash s)) (sym there) ∙ e)))
 
   pub output_found : (position : List PathStep) (here : Standing) (choice : Contract)
       → position_at hash s position ≡ Some (here, choice) → output_at position (numbered hash s) ≡ Some (paid here)

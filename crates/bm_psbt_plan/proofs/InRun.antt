@@ -16,8 +16,8 @@ use Rattle.spec_tool.specs.PsbtText.{listed_psbt}
 use Rattle.theory_script.proofs.Listing.Stands.{some_same}
 use Rattle.theory_world.proofs.Later.{compiled_is}
 use Rattle.theory_psbt.proofs.ListedFits.{listed_fits}
-use Rattle.theory_listed.specs.InRuns.{ListsFitting}
-use Rattle.theory_listed.proofs.InRuns.{listed_fit}
+use Rattle.theory_psbt_listed.specs.InRuns.{ListsFitting}
+use Rattle.theory_psbt_listed.proofs.InRuns.{listed_fit}
 use Rattle.bm_compile.specs.Numbered.{Numbered, numbered}
 use Rattle.bm_psbt_plan.specs.Parts.{named_psbt, IsOne}
 use Rattle.bm_psbt_plan.specs.OfRun.{IsOfRun}

@@ -30,22 +30,22 @@ module _ (hash : List ℕ → List ℕ) (book : List Pair) where
   there_is (label ∷ rest) digest =
       signed_more (has_signed book (key_of hash label) digest) (key_of hash label, signature_of (key_of hash label) digest) _ _ (there_is rest digest)
 
-  module _ (s : Instance) (draft : Unsigned) where
+  module _ (s : Instance) (pending : Unsigned) where
     -- ---- deposits
 
     persistent_is : (ds : List (List ℕ × Holding))
-        → signed_inputs hash book draft (map (λ d. deposit hash s d.0 d.1) ds) (map (λ d. deposit_signer (d.1).owner) ds)
-        ≡ persistent_inputs hash book ds (map (digest_of_spent hash (tx_of draft)) (map (λ d. deposit hash s d.0 d.1) ds))
+        → signed_inputs hash book pending (map (λ d. deposit hash s d.0 d.1) ds) (map (λ d. deposit_signer (d.1).owner) ds)
+        ≡ persistent_inputs hash book ds (map (digest_of_spent hash (tx_of pending)) (map (λ d. deposit hash s d.0 d.1) ds))
     persistent_is [] = refl
     persistent_is (d ∷ ds) =
-        ap (λ rest. signed_input hash book draft (deposit hash s d.0 d.1) (deposit_signer (d.1).owner) ∷ rest) (persistent_is ds)
+        ap (λ rest. signed_input hash book pending (deposit hash s d.0 d.1) (deposit_signer (d.1).owner) ∷ rest) (persistent_is ds)
 
     puts_are : (puts : List (List ℕ))
-        → signed_inputs hash book draft (put_deposits hash s puts) (map (λ name. deposit_signer (put_owner s.advert name)) puts)
-        ≡ put_inputs hash book s.advert.pre puts (map (digest_of_spent hash (tx_of draft)) (put_deposits hash s puts))
+        → signed_inputs hash book pending (put_deposits hash s puts) (map (λ name. deposit_signer (put_owner s.advert name)) puts)
+        ≡ put_inputs hash book s.advert.pre puts (map (digest_of_spent hash (tx_of pending)) (put_deposits hash s puts))
     puts_are [] = refl
     puts_are (name ∷ names) =
-        ap (λ rest. signed_input hash book draft (deposit hash s name (put_holding s.advert.pre name)) (deposit_signer (put_owner s.advert name)) ∷ rest)
+        ap (λ rest. signed_input hash book pending (deposit hash s name (put_holding s.advert.pre name)) (deposit_signer (put_owner s.advert name)) ∷ rest)
         (puts_are names)
 
   -- ---- transactions
@@ -60,9 +60,9 @@ module _ (hash : List ℕ → List ℕ) (book : List Pair) where
       ≡ path_inputs hash book s.contract s.advert path (pays hash here.output.script here.output.value) here.output.script (puts_of (core b))
       (map (digest_of_spent hash (tx_of (branch_unsigned hash s here i b))) (branch_unsigned hash s here i b).spends)
   path_is s path here i b =
-      let draft = branch_unsigned hash s here i b in
-      let e = there_is (map (branch_label s.contract path) (participants s.advert)) (digest_of_spent hash (tx_of draft) here.output) in
-      let f = puts_are s draft (puts_of (core b)) in
+      let pending = branch_unsigned hash s here i b in
+      let e = there_is (map (branch_label s.contract path) (participants s.advert)) (digest_of_spent hash (tx_of pending) here.output) in
+      let f = puts_are s pending (puts_of (core b)) in
       λ j. record {
         spent = Some (pays hash here.output.script here.output.value);
         partial = e j;

@@ -66,14 +66,14 @@ module _ (hash : List ℕ → List ℕ) (book : List Pair) (s : Instance) (path 
       → branch_path here.position i ≡ path → d ≡ b → at s.advert.root path ≡ Some b
       → found_of (at_path path (compilation hash s).paths) the_output the_script (at s.advert.root path) ≡ listed_of (end_at hash s path)
   one_branch here i d b e lies same there =
-      let draft = branch_unsigned hash s here i d in
+      let pending = branch_unsigned hash s here i d in
       let start = at_position (root_standing hash s) s.advert.root in
       let f : option_and_then (next_end hash s (To i)) (end_at hash s here.position) ≡ Some (at_branch here i d) =
       sym (end_from-step hash s start here.position (To i)) ∙ (ap (end_at hash s) lies ∙ e) in
       let st = stands hash s here i i (end_at hash s here.position) d f in
-      let front : position_of path ≡ here.position = ap position_of (sym lies) ∙ position_of-further here.position (To i) in
-      let standing : position_at hash s (position_of path) ≡ Some (here, st.choice) = ap (position_at hash s) front ∙ st.there in
-      let p : at_path path (compilation hash s).paths ≡ Some (prepared hash draft) =
+      let prefix : position_of path ≡ here.position = ap position_of (sym lies) ∙ position_of-further here.position (To i) in
+      let standing : position_at hash s (position_of path) ≡ Some (here, st.choice) = ap (position_at hash s) prefix ∙ st.there in
+      let p : at_path path (compilation hash s).paths ≡ Some (prepared hash pending) =
       paths_are_listed hash s path ∙ ap (λ o. option_map (prepared hash) (option_and_then (as_unsigned hash s) o)) e in
       let o : the_output ≡ Some (paid hash s here) = output_found hash s (position_of path) here st.choice standing in
       let q : the_script ≡ Some here.output.script =
@@ -81,12 +81,12 @@ module _ (hash : List ℕ → List ℕ) (book : List Pair) (s : Instance) (path 
       let b' : at s.advert.root path ≡ Some d = there ∙ ap Some (sym same) in
       let signers : path_signers s path ≡ branch_signers s.contract s.advert path d =
       ap (λ x. option_map_or (branch_signers s.contract s.advert path) x []) b' in
-      let listed : listed_psbt hash book (path_listed s path draft)
-      ≡ record { tx = tx_of draft; inputs = signed_inputs hash book draft draft.spends (branch_signers s.contract s.advert path d) } =
-      (λ j. record { tx = tx_of draft; inputs = signed_inputs hash book draft draft.spends (signers j) }) in
+      let listed : listed_psbt hash book (path_listed s path pending)
+      ≡ record { tx = tx_of pending; inputs = signed_inputs hash book pending pending.spends (branch_signers s.contract s.advert path d) } =
+      (λ j. record { tx = tx_of pending; inputs = signed_inputs hash book pending pending.spends (signers j) }) in
       let inputs = path_is hash book s path here i d in
       (λ j. found_of (p j) (o j) (q j) (b' j))
-      ∙ ((λ j. Some (record { tx = tx_of draft; inputs = sym inputs j }))
+      ∙ ((λ j. Some (record { tx = tx_of pending; inputs = sym inputs j }))
       ∙ (ap Some (sym listed) ∙ sym (ap listed_of e)))
 
   by_ends : (o : Option PathEnd) (q : Option Subterm) → end_at hash s path ≡ o → subterm_from (paths.position s.advert.root) path ≡ q

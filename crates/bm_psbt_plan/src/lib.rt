@@ -1,4 +1,5 @@
-//! A contract's transactions as partially signed ones, with the signatures that a book has for them.
+//! Writes a contract's transaction as a partially signed one, with the signatures that a run has for it. This is `psbt
+//! RUN CONTRACT WHICH`.
 #![tactic(auto)]
 
 mod inputs;

@@ -18,18 +18,18 @@ fn output_of(prepared: Option<&Prepared>, number: usize) -> Option<&TxOut>
     }
 }
 
-/// The output at a position, whose front is given with it.
+/// The output at a position, whose prefix is given with it.
 pub(crate) fn output_at<'a>(
     compiled: &'a Compiled,
     position: &Path,
-    front: &Path,
+    prefix: &Path,
 ) -> Option<&'a TxOut>
-    requires { front.now ≡ weights.position_of position.now }
+    requires { prefix.now ≡ weights.position_of position.now }
     ensures { option_map (λ o. o.now) result ≡ spec.output_at position.now compiled.now }
 {
     match position.steps().last() {
         None => output_of(Some(compiled.init()), 0),
         Some(PathStep::Branch(_)) => output_of(compiled.transaction_at(position), 0),
-        Some(PathStep::Part(part)) => output_of(compiled.transaction_at(front), *part as usize),
+        Some(PathStep::Part(part)) => output_of(compiled.transaction_at(prefix), *part as usize),
     }
 }

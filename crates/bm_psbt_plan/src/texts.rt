@@ -110,11 +110,11 @@ fn path_psbt<H: Hash32>(
     ensures { IfOk result (λ psbt. psbt ≡ parts.path_psbt (H.digest_of hasher.now) book.now 0 checked.now path.now compiled.now) }
 {
     let position = position_of(alloc, path)?;
-    let front = position_of(alloc, &position)?;
+    let prefix = position_of(alloc, &position)?;
     let Some(prepared) = compiled.transaction_at(path) else {
         return Ok(None);
     };
-    let Some(output) = output_at(compiled, &position, &front) else {
+    let Some(output) = output_at(compiled, &position, &prefix) else {
         return Ok(None);
     };
     let Some(script) = compiled.script_at(&position) else {

@@ -1,4 +1,5 @@
-//! What the commands on partially signed transactions print.
+//! What `psbt` prints of one file or of two: the lines that say what a partially signed transaction has, or why a file
+//! is refused.
 #![tactic(auto)]
 
 mod commands;

@@ -13,7 +13,7 @@ Names = Reads (List (List ℕ) × Bool)
 
 -- names before those that are still read
 abbrev pub with_names : List (List ℕ) → Names → Names
-with_names front read = read >>= λ r. Ok ((front ++ r.0.0, r.0.1), r.1)
+with_names prefix read = read >>= λ r. Ok ((prefix ++ r.0.0, r.0.1), r.1)
 
 -- a name, what ends the names if they end with it, and the tokens behind
 abbrev pub NameEnd : Type 0
@@ -59,24 +59,26 @@ names_by_ends ends (t ∷ ts) = name_is ends (a_name t) ts
 
 -- ---- the steps of a loop
 
-regroup : (front : List (List ℕ)) (x : List ℕ) (read : Names) → with_names front (with_names (x ∷ []) read) ≡ with_names (front ++ x ∷ []) read
-regroup front x (Ok r) = ap (λ (xs : List (List ℕ)). Ok ((xs, r.0.1), r.1)) (simp append_assoc)
-regroup front x (Err s) = refl
+regroup : (prefix : List (List ℕ)) (x : List ℕ) (read : Names) → with_names prefix (with_names (x ∷ []) read) ≡ with_names (prefix ++ x ∷ []) read
+regroup prefix x (Ok r) = ap (λ (xs : List (List ℕ)). Ok ((xs, r.0.1), r.1)) (simp append_assoc)
+regroup prefix x (Err s) = refl
 
-pub names_stop : (e : ReadError) (ends : Lexeme → Seen Bool) (front : List (List ℕ)) (ts : List Lexeme) (total : Names) → Fails e (name_at ends ts)
-    → with_names front (names_from ends true ts) ≡ total → Fails e total
-names_stop reads.Memory ends front ts total h so_far = tt
-names_stop (reads.Stop s) ends front ts total h so_far = sym so_far ∙ rw (names_by_ends ends ts, h) refl
+pub names_stop : (e : ReadError) (ends : Lexeme → Seen Bool) (prefix : List (List ℕ)) (ts : List Lexeme) (total : Names) → Fails e (name_at ends ts)
+    → with_names prefix (names_from ends true ts) ≡ total → Fails e total
+names_stop reads.Memory ends prefix ts total h so_far = tt
+names_stop (reads.Stop s) ends prefix ts total h so_far = sym so_far ∙ rw (names_by_ends ends ts, h) refl
 
-pub names_end : (ends : Lexeme → Seen Bool) (front : List (List ℕ)) (ts : List Lexeme) (x : List ℕ) (e : Bool) (rest : List Lexeme) (total : Names) → name_at ends ts ≡ Ok ((x, Some e), rest)
-    → with_names front (names_from ends true ts) ≡ total → total ≡ Ok ((front ++ x ∷ [], e), rest)
-names_end ends front ts x e rest total h so_far = sym so_far ∙ rw (names_by_ends ends ts, h) refl
+pub names_end : (ends : Lexeme → Seen Bool) (prefix : List (List ℕ)) (ts : List Lexeme) (x : List ℕ) (e : Bool) (rest : List Lexeme)
+    (total : Names) → name_at ends ts ≡ Ok ((x, Some e), rest)
+    → with_names prefix (names_from ends true ts) ≡ total → total ≡ Ok ((prefix ++ x ∷ [], e), rest)
+names_end ends prefix ts x e rest total h so_far = sym so_far ∙ rw (names_by_ends ends ts, h) refl
 
-pub names_more : (ends : Lexeme → Seen Bool) (front : List (List ℕ)) (ts : List Lexeme) (x : List ℕ) (rest : List Lexeme) (total : Names) → name_at ends ts ≡ Ok ((x, None), rest)
-    → with_names front (names_from ends true ts) ≡ total → with_names (front ++ x ∷ []) (names_from ends true rest) ≡ total
-names_more ends front ts x rest total h so_far =
-    let one : with_names front (names_from ends true ts) ≡ with_names front (with_names (x ∷ []) (names_from ends true rest)) = rw (names_by_ends ends ts, h) refl in
-    sym (regroup front x (names_from ends true rest)) ∙ sym one ∙ so_far
+pub names_more : (ends : Lexeme → Seen Bool) (prefix : List (List ℕ)) (ts : List Lexeme) (x : List ℕ) (rest : List Lexeme) (total : Names)
+    → name_at ends ts ≡ Ok ((x, None), rest)
+    → with_names prefix (names_from ends true ts) ≡ total → with_names (prefix ++ x ∷ []) (names_from ends true rest) ≡ total
+names_more ends prefix ts x rest total h so_far =
+    let one : with_names prefix (names_from ends true ts) ≡ with_names prefix (with_names (x ∷ []) (names_from ends true rest)) = rw (names_by_ends ends ts, h) refl in
+    sym (regroup prefix x (names_from ends true rest)) ∙ sym one ∙ so_far
 
 abbrev done : NameEnd → Result NameEnd Stop
 done z = Ok z
@@ -95,7 +97,7 @@ shorter_name ends (taken x) (u ∷ us) z h = shorter_comma x (comma_or ends u) u
 shorter_name ends wrong ts z h = absurd cc
 shorter_name ends (above w) ts z h = absurd cc
 
--- a name and the token behind it are taken from the front
+-- a name and the token behind it are taken from the prefix
 pub shorter : (ends : Lexeme → Seen Bool) (ts : List Lexeme) (z : NameEnd) → name_at ends ts ≡ Ok z → length (z.1) < length ts
 unfolding name_at
 shorter ends [] z h = absurd cc

@@ -24,8 +24,8 @@ room_behind k r left = room_for k (is_full k r) left >>= λ u. Ok (room_after k 
 
 -- entries before those that are still read
 abbrev pub with_entries : List Pre → Reads (List Pre) → Reads (List Pre)
-with_entries front read = read >>= λ r. Ok (front ++ r.0, r.1)
+with_entries prefix read = read >>= λ r. Ok (prefix ++ r.0, r.1)
 
 -- an entry that is read, at the end of those before it
 abbrev pub added : List Pre → Reads (Pre × Room) → Reads (List Pre × Room)
-added front read = read >>= λ p. Ok ((front ++ p.0.0 ∷ [], p.0.1), p.1)
+added prefix read = read >>= λ p. Ok ((prefix ++ p.0.0 ∷ [], p.0.1), p.1)

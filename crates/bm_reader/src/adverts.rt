@@ -2,7 +2,7 @@
 
 ghost use Rattle.std.specs.Prelude.{◌≡◌, length};
 ghost use Rattle.std.specs.List.{AllByRecursion};
-ghost use Rattle.bm_lex.specs.Fronts.{LiesIn};
+ghost use Rattle.bm_lex.specs.Prefixes.{LiesIn};
 ghost use Rattle.spec_text.specs.Lexeme.{lexemes};
 ghost use Rattle.spec_text.specs.ReadAdvert.{advert_at, advert_of_all, answer_of, read_answer};
 ghost use Rattle.bm_reader.specs.Gives.{Gives, Answers};

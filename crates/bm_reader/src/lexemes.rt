@@ -4,7 +4,7 @@ ghost use Rattle.std.specs.Prelude.{◌≡◌, length, IfOk};
 ghost use Rattle.std.specs.List.{AllByRecursion};
 ghost use Rattle.spec_text.specs.Lexeme.{lexeme_in, lexemes, name_or_long, fits_name};
 ghost use Rattle.spec_text.specs.ReadAdvert.{place_of};
-ghost use Rattle.bm_lex.specs.Fronts.{LiesIn};
+ghost use Rattle.bm_lex.specs.Prefixes.{LiesIn};
 
 use spec_data::{Name, OutOfMemory};
 use spec_text::{Kind, Lexeme, Token};

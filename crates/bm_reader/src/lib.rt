@@ -1,4 +1,4 @@
-//! Contract text is read: the advert that it spells, or why it spells none and where.
+//! Reads contract text: the advert that it spells, or the first place at which it spells none or exceeds a limit.
 #![tactic(auto)]
 
 mod adverts;

@@ -1,4 +1,4 @@
-//! Whether something stands in a list twice: a number, or an output among those that inputs spend.
+//! Finds out whether a list has something twice: a number, or an output that two inputs spend.
 #![tactic(auto)]
 
 mod elements;

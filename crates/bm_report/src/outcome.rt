@@ -90,7 +90,7 @@ pub fn put_reason(alloc: Global, out: &mut Vec<u8>, reason: &Reason) -> Result<(
 }
 
 fn put_all_made(alloc: Global, out: &mut Vec<u8>, made: &[(u32, u64)]) -> Result<(), OutOfMemory>
-    ensures { OnOk result (out.new.items ≡ out.old.items ++ spec.made_text made.now) }
+    ensures { OnOk result (out.new.items ≡ out.old.items ++ spec.generated_text made.now) }
 {
     for (number, value) in made {
         put_made(alloc, out, *number, *value)?;

@@ -78,7 +78,8 @@ pub fewer : {T : Type 0} (cells : List T) (ends : List ℕ) (rows : List (List T
 fewer cells ends rows k view lt = let same = as_many cells ends rows view in omega (arith, lt, same)
 
 -- a list from where it begins to its end
-pub row_between : {T : Type 0} (cells : List T) (ends : List ℕ) (k s e : ℕ) → AreEnds 0 ends (length cells) → k < length ends → s ≡ start_at 0 ends k → e ≡ get_or ends k e
+pub row_between : {T : Type 0} (cells : List T) (ends : List ℕ) (k s e : ℕ) → AreEnds 0 ends (length cells) → k < length ends → s
+    ≡ start_at 0 ends k → e ≡ get_or ends k e
     → (s ≤ e) × (e ≤ length cells) × ((d : List T) → slice_range cells s e ≡ get_or (rows_from 0 cells ends) k d)
 row_between cells ends k s e is lt begin end =
     let w = lies_within 0 ends (length cells) k is lt in
@@ -90,7 +91,8 @@ row_between cells ends k s e is lt begin end =
       λ d. ap (λ a. slice_range cells a e) begin ∙ ap (slice_range cells (start_at 0 ends k)) ends_there ∙ sym (row_at 0 cells ends k d lt),
     )
 
-pub pushed : {T : Type 0} (cells : List T) (ends : List ℕ) (more cells_new : List T) (ends_new : List ℕ) (n : ℕ) → AreEnds 0 ends (length cells) → cells_new ≡ cells ++ more → ends_new ≡ ends ++ n ∷ [] → n ≡ length cells_new
+pub pushed : {T : Type 0} (cells : List T) (ends : List ℕ) (more cells_new : List T) (ends_new : List ℕ) (n : ℕ)
+    → AreEnds 0 ends (length cells) → cells_new ≡ cells ++ more → ends_new ≡ ends ++ n ∷ [] → n ≡ length cells_new
     → AreEnds 0 ends_new (length cells_new) × (rows_from 0 cells_new ends_new ≡ rows_from 0 cells ends ++ more ∷ [])
 pushed cells ends more cells_new ends_new n is c e at =
     let total : length cells_new ≡ length cells + length more = ap length c ∙ length-append cells more in

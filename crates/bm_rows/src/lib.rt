@@ -1,4 +1,4 @@
-//! Lists that are laid end to end.
+//! Many short lists in one piece of memory, each found by its number. Runs keep steps and spent outputs so.
 #![tactic(auto)]
 
 ghost use Rattle.std.specs.Prelude.{◌≡◌, ◌<◌, ◌≤◌, ◌++◌, ◌∷◌, [], IfOk, OnOk, OnErr, length, slice_index_or, slice_range};

@@ -31,8 +31,8 @@ Reads view (Err e) read = FailsAt e read
 
 -- values before those that are still read
 abbrev pub behind : {A : Type 0} → List A → Option (List A) → Option (List A)
-behind front None = None
-behind front (Some xs) = Some (front ++ xs)
+behind prefix None = None
+behind prefix (Some xs) = Some (prefix ++ xs)
 
 -- a line doesn't count where the code says so, unless memory ran out
 abbrev pub Stops : {A : Type 0} → LineError → Line A → Type 0
@@ -78,8 +78,8 @@ Gives view (Err e) read = Refuses e read
 
 -- events before those that are still read
 abbrev pub with_events : List Event → Result (List Event) RunFault → Result (List Event) RunFault
-with_events front (Ok list) = Ok (front ++ list)
-with_events front (Err fault) = Err fault
+with_events prefix (Ok list) = Ok (prefix ++ list)
+with_events prefix (Err fault) = Err fault
 
 -- what a line of the events adds to those before it
 abbrev pub Added : List Event → List Event → Line Event → Type 0

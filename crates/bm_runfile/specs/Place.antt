@@ -10,4 +10,4 @@ place mark [] = 0
 place mark (b ∷ bytes) = if b == mark then 0 else suc (place mark bytes)
 
 abbrev pub one_mark : List ℕ → List ℕ → Option (List ℕ × List ℕ)
-one_mark front back = Some (front, back)
+one_mark prefix back = Some (prefix, back)

@@ -1,4 +1,5 @@
-//! Run files are read and printed: the run that the lines of a text spell, or the first line that is bad or one too many.
+//! Reads run files, and writes their lines in canonical form. It gives the run that the lines spell, or the first line
+//! that is bad, too long or one too many.
 #![tactic(auto)]
 
 mod error;

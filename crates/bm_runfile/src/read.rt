@@ -39,8 +39,8 @@ fn read_header(alloc: Global, text: &[u8]) -> Result<(Header, &[u8], u32), RunEr
     let mut rest = text;
     let mut line = 1u32;
     while !rest.is_empty() {
-        let (front, more) = first_line(rest);
-        match take_line(alloc, &mut header, front) {
+        let (prefix, more) = first_line(rest);
+        match take_line(alloc, &mut header, prefix) {
             Ok(Said::Rule) => return Ok((header, more, line + 1)),
             Ok(Said::Empty | Said::Grown) => {}
             Err(error) => return Err(at_line(error, line)),
@@ -71,8 +71,8 @@ fn read_events(
     let mut rest = text;
     let mut line = first;
     while !rest.is_empty() {
-        let (front, more) = first_line(rest);
-        if let Err(error) = take_event(alloc, parties, &mut events, &mut words, front) {
+        let (prefix, more) = first_line(rest);
+        if let Err(error) = take_event(alloc, parties, &mut events, &mut words, prefix) {
             return Err(at_line(error, line));
         }
         rest = more;

@@ -1,4 +1,5 @@
-//! The digest that the signature of an input signs, by BIP 143 with the hash type ALL.
+//! The digest that a signature of an input signs, by BIP 143 with hash type ALL. What it hashes goes into the run's
+//! list of messages.
 #![tactic(auto)]
 
 mod list_hashes;

@@ -35,7 +35,8 @@ guarded-Auth party body = search (rules, the_lemmas)
 pub guarded-After : (height : ℕ) (body : Box Guarded Global) → guarded (After height body) ≡ after height (guarded body.value)
 guarded-After height body = search (rules, the_lemmas)
 
-pub guarded-PutReveal : (puts reveals : Vec Name Global) (t : Pred) (next : Box Contract Global) → guarded (PutReveal puts reveals t next) ≡ put_reveal puts.items reveals.items (test t) (contract next.value)
+pub guarded-PutReveal : (puts reveals : Vec Name Global) (t : Pred) (next : Box Contract Global) → guarded (PutReveal puts reveals t next)
+    ≡ put_reveal puts.items reveals.items (test t) (contract next.value)
 guarded-PutReveal puts reveals t next = search (rules, the_lemmas)
 
 pub guarded-Withdraw : (party : Name) → guarded (Withdraw party) ≡ withdraw party
@@ -53,14 +54,17 @@ parts_list-parts_of [] = refl
 parts_list-parts_of (p ∷ ps) = ap (λ x. p ∷ x) (parts_list-parts_of ps)
 
 -- what a reference to an element is seen as
-pub seen_at : {X Y : Type 0} (f : X → Y) (xs : List X) (i : ℕ) (r : Option (Bor X)) → option_copied r ≡ slice_get xs i → option_map (λ b. f b.now) r ≡ slice_get (map f xs) i
+pub seen_at : {X Y : Type 0} (f : X → Y) (xs : List X) (i : ℕ) (r : Option (Bor X)) → option_copied r ≡ slice_get xs i
+    → option_map (λ b. f b.now) r ≡ slice_get (map f xs) i
 seen_at f xs i None e = rw (slice_get-map, ← e)
 seen_at f xs i (Some b) e = rw (slice_get-map, ← e)
 
-pub seen_branch : (c : Contract) (i : ℕ) (r : Option (Bor Guarded)) → option_copied r ≡ slice_get c.branches.items i → option_map (λ b. guarded b.now) r ≡ slice_get (branches (contract c)) i
+pub seen_branch : (c : Contract) (i : ℕ) (r : Option (Bor Guarded)) → option_copied r ≡ slice_get c.branches.items i
+    → option_map (λ b. guarded b.now) r ≡ slice_get (branches (contract c)) i
 seen_branch c i r e = rw branches-choice_of (seen_at guarded c.branches.items i r e)
 
-pub seen_part : (parts : Vec Part Global) (k : ℕ) (r : Option (Bor Part)) → option_copied r ≡ slice_get parts.items k → option_map (λ p. part_view p.now) r ≡ slice_get (parts_list (parts_of (map part_view parts.items))) k
+pub seen_part : (parts : Vec Part Global) (k : ℕ) (r : Option (Bor Part)) → option_copied r ≡ slice_get parts.items k
+    → option_map (λ p. part_view p.now) r ≡ slice_get (parts_list (parts_of (map part_view parts.items))) k
 seen_part parts k r e = rw parts_list-parts_of (seen_at part_view parts.items k r e)
 
 -- what each variant is seen as, for `using`

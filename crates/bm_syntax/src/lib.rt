@@ -1,4 +1,5 @@
-//! The terms of contracts: what stands at the head of a branch, at a path, and who takes part.
+//! The terms of contracts as code has them: adverts, branches and predicates, with what is found at a path and who
+//! takes part.
 #![tactic(auto)]
 
 pub mod advert;

@@ -91,7 +91,8 @@ module _ (s : Setup) (f w : World) (b : Board) (messages : List (List ℕ)) (r :
           (λ i. e i && c i) ∙ by_test a (is_complete w k a)
 
   begins_is : (tx : Tx) (k : ℕ) → begins_now r.config tx k (option_map (numbered s.hash) (compiled_instance s f k)) ≡ is_initial s tx (compiled_instance s w k)
-  begins_is tx k = ap (λ t. begins tx (option_map (numbered s.hash) (compiled_instance s f k)) && t) (complete_is k) ∙ by_instance (compiled_instance s w k) refl
+  begins_is tx k =
+      ap (λ t. begins tx (option_map (numbered s.hash) (compiled_instance s f k)) && t) (complete_is k) ∙ by_instance (compiled_instance s w k) refl
     where
       by_instance : (o : Option Instance) → compiled_instance s w k ≡ o
           → (begins tx (option_map (numbered s.hash) (compiled_instance s f k)) && is_some o) ≡ is_initial s tx o

@@ -18,15 +18,15 @@ use Rattle.spec_run.specs.declared.outcome.Reason.TheVariants as reason
 use Rattle.spec_run.specs.Setup.{Setup}
 use Rattle.spec_run.specs.World.{Promise, World, is_advertised, has_promised, live_position_at}
 use Rattle.spec_run.specs.Compiled.{compiled_instance}
-use Rattle.spec_run.specs.Draft.{Draft, done, posting, refused, unless}
+use Rattle.spec_run.specs.Pending.{Pending, done, posting, refused, unless}
 use Rattle.spec_run.specs.Advertising.{arranged, deposit_names, advertise_row}
-use Rattle.spec_run.specs.Committing.{secrets_at, committed_digests, committed_strings, bad_secret, commit_row, digest_row, with_promise, committed_draft, commit_draft}
+use Rattle.spec_run.specs.Committing.{secrets_at, committed_digests, committed_strings, bad_secret, commit_row, digest_row, with_promise, committed_pending, commit_pending}
 use Rattle.spec_run.specs.Signing.{with_pairs, endorsing_pairs, endorse_row, initial_pairs, init_row, authorising_pairs, authorise_row, sign_row}
 use Rattle.spec_run.specs.Revealing.{own_secret, reveal_row}
 use Rattle.spec_run.specs.Giving.{give_row, given_pairs, gift}
 use Rattle.spec_run.specs.Firing.{initial_by, taking_of_position, reaches_if, fire_init_row, fire_row}
 use Rattle.spec_run.specs.Ledger.{verdict_in, strings_of, judged, reaches}
-use Rattle.spec_run.specs.Event.{append_read, mine_row, draft}
+use Rattle.spec_run.specs.Event.{append_read, mine_row, pending}
 use Rattle.bm_translate.specs.Shown.{posts_by}
 
 -- ---- what an event tells
@@ -71,7 +71,7 @@ IsFresh s w e outcomes.Done = DoneFresh s w e
 IsFresh s w e (outcomes.Accepted spent made lock) = Unit {0}
 IsFresh s w e (outcomes.Refused reason) = Unit {0}
 
-pub record Left (s : Setup) (w : World) (e : Event) (d : Draft) : Type 0 where
+pub record Left (s : Setup) (w : World) (e : Event) (d : Pending) : Type 0 where
   pub posts : d.posts ≡ posts_by s.header.secrets e d.tx d.outcome
   pub promises : d.world.promises ≡ w.promises ++ promises_by s e d.outcome
   pub advertised : d.world.advertised ≡ w.advertised ++ adverts_by s e d.outcome
@@ -82,7 +82,7 @@ module _ (s : Setup) (w : World) where
   refusal e hashes r =
       record { posts = refl; promises = sym (append-nil w.promises); advertised = sym (append-nil w.advertised); fresh = tt }
 
-  if_done : (e : Event) (r : Option Reason) (hashes : List (List ℕ)) (d : Draft) → (r ≡ None → Left s w e d) → Left s w e (unless r w hashes d)
+  if_done : (e : Event) (r : Option Reason) (hashes : List (List ℕ)) (d : Pending) → (r ≡ None → Left s w e d) → Left s w e (unless r w hashes d)
   if_done e None hashes d h = h refl
   if_done e (Some r) hashes d h = refusal e hashes r
 
@@ -103,17 +103,17 @@ module _ (s : Setup) (w : World) where
   reading e (Ok tx) = reaching e [] tx
   reading e (Err place) = refusal e [] (reason.BadTx place)
 
-  committing : (k : ℕ) (party : List ℕ) (ds : List (List ℕ × List ℕ)) → Left s w (events.Commit k party ds) (commit_draft s w k party ds)
+  committing : (k : ℕ) (party : List ℕ) (ds : List (List ℕ × List ℕ)) → Left s w (events.Commit k party ds) (commit_pending s w k party ds)
   committing k party ds =
       let e = events.Commit k party ds in
       let strings = committed_strings s k party in
-      let last = committed_draft s (with_promise s w k party ds) k party strings in
+      let last = committed_pending s (with_promise s w k party ds) k party strings in
       if_done e (first_reason (commit_row s w k party ds)) [] _ (λ none.
       let row = no_reason-none_true (commit_row s w k party ds) none in
       if_done e (first_reason (digest_row s w k party ds)) strings last (λ fresh.
       record { posts = refl; promises = refl; advertised = sym (append-nil w.advertised); fresh = (row.1.1.1.0, row.1.1.1.1.1.1.0) }))
 
-  pub left : (e : Event) → Left s w e (draft s w e)
+  pub left : (e : Event) → Left s w e (pending s w e)
   left (events.Advertise k bs) =
       if_done (events.Advertise k bs) (first_reason (advertise_row s w k bs)) []
       (done (record w { advertised = w.advertised ++ told_of s k bs ∷ [] }) []) (λ none.

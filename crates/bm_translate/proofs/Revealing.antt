@@ -161,7 +161,8 @@ module _ (s : Setup) (messages posted : List (List ℕ)) (heard : AreHeard s.has
       where
         by_digest : (o : Option (List ℕ)) → is_one_of w.posted (string_of s.hash messages o) ≡ (is_shown s next.posted o && true)
         by_digest None = refl
-        by_digest (Some d) = sym (and_true (is_shown s next.posted (Some d)) ∙ shown_by s messages posted heard d next.posted within_all ∙ ap (λ ts. is_one_of ts (string_of s.hash messages (Some d))) strings)
+        by_digest (Some d) = sym (and_true (is_shown s next.posted (Some d)) ∙ shown_by s messages posted heard d next.posted within_all
+            ∙ ap (λ ts. is_one_of ts (string_of s.hash messages (Some d))) strings)
 
     -- a secret of another
     other : (x : Revealed) → is_promise_of x.contract x.party p ≡ false → false ≡ (shown s next x && not (shown s w x))

@@ -9,7 +9,7 @@ use Rattle.spec_run.specs.declared.outcome.Record.{Record}
 use Rattle.spec_run.specs.Setup.{Setup}
 use Rattle.spec_run.specs.World.{World, bindings_at}
 use Rattle.spec_run.specs.Committing.{secrets_at, committed_digests}
-use Rattle.spec_run.specs.Event.{draft}
+use Rattle.spec_run.specs.Event.{pending}
 use Rattle.spec_run.specs.Steps.{reveals, commit_lengths, done_steps}
 use Rattle.bm_exchange.specs.Exchanged.{digests_by}
 use Rattle.bm_world_board.specs.declared.board.Board.{Board}
@@ -23,10 +23,10 @@ use Rattle.bm_translate.proofs.Telling.{bindings_told, digests_told, lengths_are
 
 module _ (s : Setup) (b : Board) (messages : List (List ℕ)) (f w next : World) (r : Running) (x : Record)
     (turn : IsTurn s b messages f w next r x) where
-  outcome_is : (draft s w x.event).outcome ≡ x.outcome
+  outcome_is : (pending s w x.event).outcome ≡ x.outcome
   outcome_is = sym (ap (λ (y : Record). y.outcome) turn.passed)
 
-  leaves : Left s w x.event (draft s w x.event)
+  leaves : Left s w x.event (pending s w x.event)
   leaves = left s w x.event
 
   -- ---- what it leaves

@@ -9,8 +9,8 @@ use Rattle.spec_run.specs.declared.outcome.Record.{Record}
 use Rattle.spec_run.specs.Setup.{Setup}
 use Rattle.spec_run.specs.World.{Promise, World}
 use Rattle.spec_run.specs.Compiled.{compiled_instance}
-use Rattle.spec_run.specs.Draft.{settled}
-use Rattle.spec_run.specs.Event.{draft, record_of}
+use Rattle.spec_run.specs.Pending.{applied}
+use Rattle.spec_run.specs.Event.{pending, record_of}
 use Rattle.theory_run.specs.KeptRuns.{KeptRun}
 use Rattle.bm_hash.specs.Messages.{message_of}
 use Rattle.bm_match.specs.Matches.{all_compiled}
@@ -57,8 +57,8 @@ pub record IsMoment (s : Setup) (b : Board) (messages : List (List ℕ)) (f w : 
 -- an event of that run, with its record and the world that it left
 pub record IsTurn (s : Setup) (b : Board) (messages : List (List ℕ)) (f w next : World) (r : Running) (x : Record) : Type 0 where
   pub before : IsMoment s b messages f w r
-  pub passed : x ≡ record_of x.event (draft s w x.event)
-  pub left : next ≡ settled w (draft s w x.event)
+  pub passed : x ≡ record_of x.event (pending s w x.event)
+  pub left : next ≡ applied w (pending s w x.event)
   pub later : IsLater s next f
 
 -- it is the outcome of a transaction that the ledger accepted

@@ -4,7 +4,7 @@ ghost use Rattle.std.specs.Prelude.{◌≡◌, ◌<◌, ◌^◌, ◌++◌, ◌�
 ghost use Rattle.spec_calculus.specs.declared.step.Step.TheVariants as steps;
 ghost use Rattle.spec_run.specs.World.{World, bindings_at};
 ghost use Rattle.spec_run.specs.declared.outcome.Outcome.TheVariants as outcomes;
-ghost use Rattle.bm_world_board.specs.Drafts.{setup_of};
+ghost use Rattle.bm_world_board.specs.Prepares.{setup_of};
 ghost use Rattle.spec_run.specs.Steps as spec;
 ghost use Rattle.bm_exchange.specs.Exchanged.{digests_by};
 ghost use Rattle.bm_translate.specs.Shown.{revealed_of, posts_of, told_of};

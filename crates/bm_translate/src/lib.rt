@@ -1,4 +1,5 @@
-//! The steps of the calculus that the events of a run stand for.
+//! Says which steps of the calculus an event of the ledger corresponds to. With `bm_translate_course` it makes the
+//! second of the two runs that `play` prints.
 #![tactic(auto)]
 
 mod contracts;

@@ -50,7 +50,7 @@ left_of xs i x lt at = drop_more xs i x lt ∙ ap (λ z. z ∷ drop (i + 1) xs) 
 
 -- the records of what was passed
 abbrev records_of : List Passed → List Record
-records_of ps = map (λ p. record_of p.event p.draft) ps
+records_of ps = map (λ p. record_of p.event p.pending) ps
 
 module _ (s : Setup) (b : Board) (messages : List (List ℕ)) (trace : List Record) (is : IsPlayed s b messages trace) where
   abbrev f : World
@@ -124,10 +124,10 @@ module _ (s : Setup) (b : Board) (messages : List (List ℕ)) (f : World) (room 
         (later_end s f.posted ps (before ++ record_in (turn_of s f.posted r.config w p) ∷ [])
         (turn_of s f.posted r.config w p).configuration p.world holds.1)
 
-    turn : IsTurn s b messages f w p.world r (record_of p.event p.draft)
+    turn : IsTurn s b messages f w p.world r (record_of p.event p.pending)
     turn = record { before = moment; passed = now.passed; left = now.left; later = later }
 
-    next : IsNext s b messages r (record_of p.event p.draft)
+    next : IsNext s b messages r (record_of p.event p.pending)
     next = record {
       end = f;
       world = w;
@@ -144,25 +144,25 @@ module _ (s : Setup) (b : Board) (messages : List (List ℕ)) (f : World) (room 
     -- what is known after it
     module _ (made : List Step) (made_is : made ≡ (turn_of s f.posted r.config w p).steps) where
       abbrev r' : Running
-      r' = passed_by r made (posts_of b.header.secrets (record_of p.event p.draft))
+      r' = passed_by r made (posts_of b.header.secrets (record_of p.event p.pending))
 
       config_is : (after_all r made).config ≡ (turn_of s f.posted r.config w p).configuration
       config_is = config_after made r ∙ ap (after_steps r.config) made_is
 
-      moment_after : IsMoment s b messages f p.world (passed_by r made (posts_of b.header.secrets (record_of p.event p.draft)))
+      moment_after : IsMoment s b messages f p.world (passed_by r made (posts_of b.header.secrets (record_of p.event p.pending)))
       moment_after = record {
         end = moment.end;
         kept = subst (λ g. KeptRun s f.posted g p.world) (sym config_is) now.after;
         later = later;
         inits = inits_after_all made r moment.inits ∙ ap (λ (g : Configuration). g.init_authorised) (sym (config_after made r));
         asked = asked_after_all made r moment.asked ∙ ap (λ (g : Configuration). g.branch_authorised) (sym (config_after made r));
-        secrets = secrets_after s b messages f w p.world r (record_of p.event p.draft) turn;
+        secrets = secrets_after s b messages f w p.world r (record_of p.event p.pending) turn;
       }
 
-      under_way : map (λ q. record_of q.event q.draft) ps ≡ rest
+      under_way : map (λ q. record_of q.event q.pending) ps ≡ rest
           → so_far ++ map (λ u. u.steps) (turns_from s f.posted r.config w (p ∷ ps)) ≡ all
           → last_or r.config (map (λ u. u.configuration) (turns_from s f.posted r.config w (p ∷ ps))) ≡ last
-          → IsUnderWay s b messages f (passed_by r made (posts_of b.header.secrets (record_of p.event p.draft))) rest (so_far ++ made ∷ []) all last
+          → IsUnderWay s b messages f (passed_by r made (posts_of b.header.secrets (record_of p.event p.pending))) rest (so_far ++ made ∷ []) all last
       under_way records steps last_is = record {
         world = p.world;
         passed = ps;
@@ -183,12 +183,12 @@ module _ (s : Setup) (b : Board) (messages : List (List ℕ)) (f : World) (room 
     pub is_next : IsNext s b messages r x
     is_next = by_passed at.passed at.records at.holds at.ends
       where
-        by_passed : (ps : List Passed) → map (λ q. record_of q.event q.draft) ps ≡ x ∷ rest
+        by_passed : (ps : List Passed) → map (λ q. record_of q.event q.pending) ps ≡ x ∷ rest
             → HoldsFrom (here s f.posted) at.before r.config at.world (turns_from s f.posted r.config at.world ps)
             → world_after at.world ps ≡ f → IsNext s b messages r x
         by_passed [] e h k = absurd (nothing_is x rest e)
         by_passed (p ∷ ps) e h k =
-            let z = same_first (record_of p.event p.draft) x (records_of ps) rest e in
+            let z = same_first (record_of p.event p.pending) x (records_of ps) rest e in
             subst (IsNext s b messages r) z (next at.world p ps at.before at.moment h k)
 
     -- and after it
@@ -198,7 +198,7 @@ module _ (s : Setup) (b : Board) (messages : List (List ℕ)) (f : World) (room 
         → IsUnderWay s b messages f new rest (so_far ++ made ∷ []) all last
     goes_on made new says = by_passed at.passed at.records at.holds at.ends at.steps at.last_is
       where
-        by_record : (p : Passed) (ps : List Passed) → record_of p.event p.draft ≡ x → map (λ q. record_of q.event q.draft) ps ≡ rest
+        by_record : (p : Passed) (ps : List Passed) → record_of p.event p.pending ≡ x → map (λ q. record_of q.event q.pending) ps ≡ rest
             → HoldsFrom (here s f.posted) at.before r.config at.world (turns_from s f.posted r.config at.world (p ∷ ps))
             → world_after at.world (p ∷ ps) ≡ f
             → so_far ++ map (λ u. u.steps) (turns_from s f.posted r.config at.world (p ∷ ps)) ≡ all
@@ -211,7 +211,7 @@ module _ (s : Setup) (b : Board) (messages : List (List ℕ)) (f : World) (room 
             subst (λ (q : Running). IsUnderWay s b messages f q rest (so_far ++ made ∷ []) all last) (sym told.1)
             (under_way at.world p ps at.before at.moment h k made told.0 records steps last_is)
 
-        by_passed : (ps : List Passed) → map (λ q. record_of q.event q.draft) ps ≡ x ∷ rest
+        by_passed : (ps : List Passed) → map (λ q. record_of q.event q.pending) ps ≡ x ∷ rest
             → HoldsFrom (here s f.posted) at.before r.config at.world (turns_from s f.posted r.config at.world ps)
             → world_after at.world ps ≡ f
             → so_far ++ map (λ u. u.steps) (turns_from s f.posted r.config at.world ps) ≡ all
@@ -219,8 +219,8 @@ module _ (s : Setup) (b : Board) (messages : List (List ℕ)) (f : World) (room 
             → IsUnderWay s b messages f new rest (so_far ++ made ∷ []) all last
         by_passed [] e h k steps last_is = absurd (nothing_is x rest e)
         by_passed (p ∷ ps) e h k steps last_is =
-            let z = same_first (record_of p.event p.draft) x (records_of ps) rest e in
-            let q = same_rest (record_of p.event p.draft) x (records_of ps) rest e in
+            let z = same_first (record_of p.event p.pending) x (records_of ps) rest e in
+            let q = same_rest (record_of p.event p.pending) x (records_of ps) rest e in
             by_record p ps z q h k steps last_is
 
   -- ---- at the end
@@ -228,8 +228,8 @@ module _ (s : Setup) (b : Board) (messages : List (List ℕ)) (f : World) (room 
   pub ended : IsUnderWay s b messages f r [] so_far all last → (so_far ≡ all) × (r.config ≡ last)
   ended at = by_passed at.passed at.records at.steps at.last_is
     where
-      by_passed : (ps : List Passed) → map (λ q. record_of q.event q.draft) ps ≡ []
+      by_passed : (ps : List Passed) → map (λ q. record_of q.event q.pending) ps ≡ []
           → so_far ++ map (λ u. u.steps) (turns_from s f.posted r.config at.world ps) ≡ all
           → last_or r.config (map (λ u. u.configuration) (turns_from s f.posted r.config at.world ps)) ≡ last → (so_far ≡ all) × (r.config ≡ last)
       by_passed [] e steps last_is = (sym (append-nil so_far) ∙ steps, last_is)
-      by_passed (p ∷ ps) e steps last_is = absurd (some_is (record_of p.event p.draft) (records_of ps) e)
+      by_passed (p ∷ ps) e steps last_is = absurd (some_is (record_of p.event p.pending) (records_of ps) e)

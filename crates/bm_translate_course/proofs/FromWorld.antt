@@ -13,7 +13,7 @@ use Rattle.bm_hash.specs.Messages.{Noted, message_of}
 use Rattle.bm_compile.specs.Numbered.{numbered}
 use Rattle.bm_match.specs.Matches.{compiled_from, all_compiled}
 use Rattle.bm_world_board.specs.declared.board.Board.{Board}
-use Rattle.bm_world_board.specs.Drafts.{setup_of, world_of}
+use Rattle.bm_world_board.specs.Prepares.{setup_of, world_of}
 use Rattle.bm_world.specs.declared.halt.Halt.{Halt}
 use Rattle.bm_world.specs.Playing.{Played, setup_in, IsWorld}
 use Rattle.bm_translate_course.specs.Courses.{passed_in, end_of, IsPlayed}
@@ -38,7 +38,7 @@ played_of hash b messages trace halt is =
     let posted : b.exchange.posted ≡ (end_of s trace).posted = ap (λ (w : World). w.posted) last in
     record {
       run = record { setup = is.setup; opens = reached.opens; events = reached.events };
-      records = ap (map (λ (p : Passed). record_of p.event p.draft)) same ∙ reached.records;
+      records = ap (map (λ (p : Passed). record_of p.event p.pending)) same ∙ reached.records;
       header = refl;
       contracts = refl;
       accounts = is.accounts;

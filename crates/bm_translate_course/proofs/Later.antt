@@ -5,8 +5,8 @@ use Rattle.spec_run.specs.declared.event.Event.{Event}
 use Rattle.spec_run.specs.declared.outcome.Record.{Record}
 use Rattle.spec_run.specs.Setup.{Setup}
 use Rattle.spec_run.specs.World.{Output, World}
-use Rattle.spec_run.specs.Draft.{settled}
-use Rattle.spec_run.specs.Event.{Passed, draft}
+use Rattle.spec_run.specs.Pending.{applied}
+use Rattle.spec_run.specs.Event.{Passed, pending}
 use Rattle.spec_run.specs.Translation.{turn_of, turns_from, world_after, record_in}
 use Rattle.spec_run.specs.Statements.{HoldsFrom}
 use Rattle.theory_world.proofs.Later.{Lasts}
@@ -42,22 +42,26 @@ module _ (s : Setup) where
   later_trans u v w a b = record {
     compiled = λ k st h. b.compiled k st (a.compiled k st h);
     outputs = (let x = a.outputs in let y = b.outputs in omega (arith, x, y));
-    advertised = (a.advertised.0 ++ b.advertised.0, b.advertised.1 ∙ ap (λ xs. xs ++ b.advertised.0) a.advertised.1 ∙ append_assoc u.advertised a.advertised.0 b.advertised.0);
+    advertised = (
+      a.advertised.0 ++ b.advertised.0,
+      b.advertised.1 ∙ ap (λ xs. xs ++ b.advertised.0) a.advertised.1
+          ∙ append_assoc u.advertised a.advertised.0 b.advertised.0,
+    );
     promises = (a.promises.0 ++ b.promises.0, b.promises.1 ∙ ap (λ xs. xs ++ b.promises.0) a.promises.1 ∙ append_assoc u.promises a.promises.0 b.promises.0);
     posted = (a.posted.0 ++ b.posted.0, b.posted.1 ∙ ap (λ xs. xs ++ b.posted.0) a.posted.1 ∙ append_assoc u.posted a.posted.0 b.posted.0);
   }
 
-  later_event : (z : List (List ℕ)) (g : Configuration) (w : World) (e : Event) → KeptRun s z g w → IsLater s w (settled w (draft s w e))
+  later_event : (z : List (List ℕ)) (g : Configuration) (w : World) (e : Event) → KeptRun s z g w → IsLater s w (applied w (pending s w e))
   later_event z g w e kept =
-      let next = settled w (draft s w e) in
-      let more : Grows s w (settled w (draft s w e)) = grows s g w kept.books.book e in
+      let next = applied w (pending s w e) in
+      let more : Grows s w (applied w (pending s w e)) = grows s g w kept.books.book e in
       let l = left s w e in
       record {
         compiled = more.compiled;
         outputs = fewer w.outputs next.outputs more.outputs;
-        advertised = (adverts_by s e (draft s w e).outcome, l.advertised);
-        promises = (promises_by s e (draft s w e).outcome, l.promises);
-        posted = ((draft s w e).posts, refl);
+        advertised = (adverts_by s e (pending s w e).outcome, l.advertised);
+        promises = (promises_by s e (pending s w e).outcome, l.promises);
+        posted = ((pending s w e).posts, refl);
       }
 
   -- ---- all events that are left

@@ -7,8 +7,8 @@ use Rattle.spec_run.specs.declared.event.Event.{Event}
 use Rattle.spec_run.specs.declared.outcome.Record.{Record}
 use Rattle.spec_run.specs.Setup.{Setup}
 use Rattle.spec_run.specs.World.{World}
-use Rattle.spec_run.specs.Draft.{settled}
-use Rattle.spec_run.specs.Event.{Passed, draft, opening_world, played, record_of}
+use Rattle.spec_run.specs.Pending.{applied}
+use Rattle.spec_run.specs.Event.{Passed, pending, opening_world, played, record_of}
 use Rattle.spec_run.specs.Steps.{outcome_steps}
 use Rattle.spec_run.specs.Translation.{Turn, opening_configuration, turns_from, world_after, last_or, record_in}
 use Rattle.spec_run.specs.Statements.{Claim, IsRun, HoldsFrom}
@@ -38,7 +38,7 @@ end_of s trace = world_after (opening_world s) (passed_in s trace)
 -- more may have been hashed
 pub record IsPlayed (s : Setup) (b : Board) (messages : List (List ℕ)) (trace : List Record) : Type 0 where
   pub run : IsRun s (events_of trace)
-  pub records : map (λ p. record_of p.event p.draft) (passed_in s trace) ≡ trace
+  pub records : map (λ p. record_of p.event p.pending) (passed_in s trace) ≡ trace
   pub header : b.header ≡ s.header
   pub contracts : b.contracts ≡ s.contracts
   pub accounts : b.accounts ≡ map (account_of s.hash) s.header.parties
@@ -54,8 +54,8 @@ pub record IsPlayed (s : Setup) (b : Board) (messages : List (List ℕ)) (trace 
 -- what is kept before an event and after it, and what it is
 pub record IsHere (s : Setup) (z : List (List ℕ)) (g : Configuration) (w : World) (t : Turn) : Type 0 where
   pub kept : KeptRun s z g w
-  pub passed : record_in t ≡ record_of t.event (draft s w t.event)
-  pub left : t.world ≡ settled w (draft s w t.event)
+  pub passed : record_in t ≡ record_of t.event (pending s w t.event)
+  pub left : t.world ≡ applied w (pending s w t.event)
   pub legal : Legal g t.steps
   pub after : KeptRun s z t.configuration t.world
 
@@ -92,7 +92,7 @@ pub record IsUnderWay (s : Setup) (b : Board) (messages : List (List ℕ)) (f : 
   pub world : World
   pub passed : List Passed
   pub before : List Record
-  pub records : map (λ p. record_of p.event p.draft) passed ≡ rest
+  pub records : map (λ p. record_of p.event p.pending) passed ≡ rest
   pub moment : IsMoment s b messages f world r
   pub holds : HoldsFrom (here s f.posted) before r.config world (turns_from s f.posted r.config world passed)
   pub ends : world_after world passed ≡ f

@@ -4,7 +4,7 @@ ghost use Rattle.std.specs.Prelude.{◌≡◌, ◌+◌, ◌<◌, ◌^◌, length
 ghost use Rattle.spec_run.specs.Translation as run;
 ghost use Rattle.spec_text.specs.PlanText.{step_count};
 ghost use Rattle.bm_world.specs.Playing.{setup_in};
-ghost use Rattle.bm_world_board.specs.Drafts.{setup_of};
+ghost use Rattle.bm_world_board.specs.Prepares.{setup_of};
 ghost use Rattle.bm_translate_course.specs.Courses.{IsPlayed, events_of, started};
 
 use crate::walking::{pass, start};
@@ -24,7 +24,7 @@ pub struct Counted {
     pub last: Config,
 }
 
-// A count with more. Counts of more than 64 bits, which no run has, are taken for want of memory.
+// A count with more. Counts of more than 64 bits, which no run has, count as out of memory.
 fn with_more(count: u64, more: usize) -> Result<u64, OutOfMemory>
     ensures { IfOk result (λ n. n ≡ count + more) }
 {

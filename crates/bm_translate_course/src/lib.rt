@@ -1,4 +1,5 @@
-//! The course of a run in the calculus.
+//! Goes over all events of a run and takes their steps from the opening on. Its clause says that the steps are a legal
+//! run that agrees with the ledger after every event.
 #![tactic(auto)]
 
 mod counting;

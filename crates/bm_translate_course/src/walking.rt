@@ -7,7 +7,7 @@ ghost use Rattle.spec_run.specs.Statements.{Simulates, HoldsThroughout, licensed
 ghost use Rattle.spec_run.specs.Translation as run;
 ghost use Rattle.spec_run.specs.Steps.{outcome_steps};
 ghost use Rattle.spec_run.specs.World.{World};
-ghost use Rattle.bm_world_board.specs.Drafts.{setup_of};
+ghost use Rattle.bm_world_board.specs.Prepares.{setup_of};
 ghost use Rattle.bm_translate.specs.Moments.{IsTurn};
 ghost use Rattle.bm_translate.specs.Shown.{posts_of};
 ghost use Rattle.bm_translate_course.specs.Courses.{IsPlayed, IsNext, events_of, started, passed_by};

@@ -8,7 +8,7 @@ use std::alloc::{AllocError, AllocFailed};
 /// Why a transaction was not decoded.
 #[derive(Clone, Copy, Debug, PartialEq, Eq)]
 pub enum TxError {
-    /// The bytes spell no transaction; the length of their longest front that begins a spelling.
+    /// The bytes spell no transaction; the length of their longest prefix that begins a spelling.
     BadTx(usize),
     Memory,
 }

@@ -1,4 +1,4 @@
-//! Transactions as bytes, and their txids.
+//! Transactions as bytes, both ways, and their ids. What isn't exactly one transaction is refused at a place.
 #![tactic(auto)]
 
 mod fault;

@@ -20,8 +20,8 @@ pub(crate) fn chunk_of(bytes: &[u8], len: usize) -> Result<(&[u8], &[u8]), usize
 pub(crate) fn u32_at(bytes: &[u8]) -> Result<(u32, &[u8]), usize>
     ensures { Reads (λ x. (x.0, x.1.now)) result (number_at w32 bytes.now) }
 {
-    let (front, rest) = chunk_of(bytes, 4)?;
-    let number = u32::from_le_bytes([front[0], front[1], front[2], front[3]]);
+    let (prefix, rest) = chunk_of(bytes, 4)?;
+    let number = u32::from_le_bytes([prefix[0], prefix[1], prefix[2], prefix[3]]);
     Ok((number, rest))
 }
 
@@ -29,9 +29,9 @@ pub(crate) fn u32_at(bytes: &[u8]) -> Result<(u32, &[u8]), usize>
 pub fn u64_at(bytes: &[u8]) -> Result<(u64, &[u8]), usize>
     ensures { Reads (λ x. (x.0, x.1.now)) result (number_at w64 bytes.now) }
 {
-    let (front, rest) = chunk_of(bytes, 8)?;
+    let (prefix, rest) = chunk_of(bytes, 8)?;
     let number = u64::from_le_bytes([
-        front[0], front[1], front[2], front[3], front[4], front[5], front[6], front[7],
+        prefix[0], prefix[1], prefix[2], prefix[3], prefix[4], prefix[5], prefix[6], prefix[7],
     ]);
     Ok((number, rest))
 }
@@ -41,11 +41,11 @@ pub fn u64_at(bytes: &[u8]) -> Result<(u64, &[u8]), usize>
 fn wide16_at(bytes: &[u8]) -> Result<(u64, &[u8]), usize>
     ensures { Reads (λ x. (x.0, x.1.now)) result (wide_at w16 253 bytes.now) }
 {
-    let (front, rest) = chunk_of(bytes, 1)?;
+    let (prefix, rest) = chunk_of(bytes, 1)?;
     let [last, rest @ ..] = rest else {
         return Err(0);
     };
-    let number = u16::from_le_bytes([front[0], *last]);
+    let number = u16::from_le_bytes([prefix[0], *last]);
     if number < 253 {
         return Err(rest.len() + 1);
     }
@@ -57,11 +57,11 @@ fn wide16_at(bytes: &[u8]) -> Result<(u64, &[u8]), usize>
 fn wide32_at(bytes: &[u8]) -> Result<(u64, &[u8]), usize>
     ensures { Reads (λ x. (x.0, x.1.now)) result (wide_at w32 (2 ^ 16) bytes.now) }
 {
-    let (front, rest) = chunk_of(bytes, 3)?;
+    let (prefix, rest) = chunk_of(bytes, 3)?;
     let [last, rest @ ..] = rest else {
         return Err(0);
     };
-    let number = u32::from_le_bytes([front[0], front[1], front[2], *last]);
+    let number = u32::from_le_bytes([prefix[0], prefix[1], prefix[2], *last]);
     if number < 0x1_0000 {
         return Err(rest.len() + 1);
     }
@@ -73,12 +73,12 @@ fn wide32_at(bytes: &[u8]) -> Result<(u64, &[u8]), usize>
 fn wide64_at(bytes: &[u8]) -> Result<(u64, &[u8]), usize>
     ensures { Reads (λ x. (x.0, x.1.now)) result (wide_at w64 (2 ^ 32) bytes.now) }
 {
-    let (front, rest) = chunk_of(bytes, 7)?;
+    let (prefix, rest) = chunk_of(bytes, 7)?;
     let [last, rest @ ..] = rest else {
         return Err(0);
     };
     let number = u64::from_le_bytes([
-        front[0], front[1], front[2], front[3], front[4], front[5], front[6], *last,
+        prefix[0], prefix[1], prefix[2], prefix[3], prefix[4], prefix[5], prefix[6], *last,
     ]);
     if number < 0x1_0000_0000 {
         return Err(rest.len() + 1);

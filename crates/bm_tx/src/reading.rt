@@ -26,9 +26,9 @@ fn bytes_of(alloc: Global, bytes: &[u8]) -> Result<(Bytes, &[u8]), ReadError>
 fn txid_of(bytes: &[u8]) -> Result<([u8; 32], &[u8]), ReadError>
     ensures { Gives (λ x. (x.0, x.1.now)) result (chunk 32 bytes.now) }
 {
-    let (front, rest) = chunk_of(bytes, 32)?;
+    let (prefix, rest) = chunk_of(bytes, 32)?;
     let mut txid = [0; 32];
-    txid.copy_from_slice(front);
+    txid.copy_from_slice(prefix);
     Ok((txid, rest))
 }
 

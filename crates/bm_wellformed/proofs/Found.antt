@@ -46,7 +46,8 @@ module _ (flaw : Flaw) (a : Advert) where
   ds = volatile a.pre
 
   mutual
-    branches_found : (q : List PathStep) (v : ℤ) (i : ℕ) (c : Contract) → first_answer shown (branches_funded ds a.fee q v i c) ≡ found_in_branches flaw a q v i c
+    branches_found : (q : List PathStep) (v : ℤ) (i : ℕ) (c : Contract) → first_answer shown (branches_funded ds a.fee q v i c)
+        ≡ found_in_branches flaw a q v i c
     branches_found q v i no_branch = refl
     branches_found q v i (branch b bs) =
         ap (or_else (place_when (passes flaw a v (at_branch b)) (places.Branch (q ++ To i ∷ []))))
@@ -57,7 +58,8 @@ module _ (flaw : Flaw) (a : Advert) where
     under_found p v (auth party body) = under_found p v body
     under_found p v (after height body) = under_found p v body
     under_found p v (put_reveal puts reveals test next) =
-        ap (or_else (place_when (passes flaw a (after_put ds a.fee v puts) (position next)) (places.Position p))) (branches_found p (after_put ds a.fee v puts) 0 next)
+        ap (or_else (place_when (passes flaw a (after_put ds a.fee v puts) (position next)) (places.Position p)))
+        (branches_found p (after_put ds a.fee v puts) 0 next)
     under_found p v (withdraw party) = refl
     under_found p v (split parts) = parts_found p 0 parts
 
@@ -67,13 +69,16 @@ module _ (flaw : Flaw) (a : Advert) where
         ap (or_else (place_when (passes flaw a (pos w) (position c)) (places.Position (p ++ Into k ∷ []))))
         (shown-append (branches_funded ds a.fee (p ++ Into k ∷ []) (pos w) 0 c) (parts_funded ds a.fee p (k + 1) ps)
         ∙ (λ j. or_else (branches_found (p ++ Into k ∷ []) (pos w) 0 c j) (parts_found p (k + 1) ps j)))
-        ∙ sym (or_else-assoc (place_when (passes flaw a (pos w) (position c)) (places.Position (p ++ Into k ∷ []))) (found_in_branches flaw a (p ++ Into k ∷ []) (pos w) 0 c) (found_in_parts flaw a p (k + 1) ps))
+        ∙ sym (or_else-assoc (place_when (passes flaw a (pos w) (position c)) (places.Position (p ++ Into k ∷ [])))
+        (found_in_branches flaw a (p ++ Into k ∷ []) (pos w) 0 c) (found_in_parts flaw a p (k + 1) ps))
 
   pub found_whole : found_in_choice flaw a [] (root_balance a) a.root ≡ found flaw a
-  found_whole = ap (or_else (place_when (passes flaw a (root_balance a) (position a.root)) (places.Position []))) (sym (branches_found [] (root_balance a) 0 a.root))
+  found_whole =
+      ap (or_else (place_when (passes flaw a (root_balance a) (position a.root)) (places.Position []))) (sym (branches_found [] (root_balance a) 0 a.root))
 
   -- from the root on
-  pub if_found : {E : Type 0} (r : Result (Option Place) E) (q : List PathStep) (v : ℤ) (c : Contract) → IfOk r (λ place. place ≡ found_in_choice flaw a q v c) → q ≡ [] → v ≡ root_balance a → c ≡ a.root → IfOk r (λ place. place ≡ found flaw a)
+  pub if_found : {E : Type 0} (r : Result (Option Place) E) (q : List PathStep) (v : ℤ) (c : Contract)
+      → IfOk r (λ place. place ≡ found_in_choice flaw a q v c) → q ≡ [] → v ≡ root_balance a → c ≡ a.root → IfOk r (λ place. place ≡ found flaw a)
   if_found r q v c h eq ev ec = subst (λ x. IfOk r (λ place. place ≡ x)) ((λ i. found_in_choice flaw a (eq i) (ev i) (ec i)) ∙ found_whole) h
 
 -- the participants as the search counts them

@@ -22,7 +22,8 @@ abbrev removed : List ℕ → List (List ℕ) → List (List ℕ)
 removed x [] = []
 removed x (y ∷ ys) = if bytes_eq y x then ys else (y ∷ removed x ys)
 
-one_less : (b m : Bool) (y : List ℕ) (ys rest : List (List ℕ)) → (m ≡ true → length ys ≡ length rest + 1) → (b || m) ≡ true → length (y ∷ ys) ≡ length (if b then ys else (y ∷ rest)) + 1
+one_less : (b m : Bool) (y : List ℕ) (ys rest : List (List ℕ)) → (m ≡ true → length ys ≡ length rest + 1) → (b || m) ≡ true
+    → length (y ∷ ys) ≡ length (if b then ys else (y ∷ rest)) + 1
 one_less true m y ys rest k h = omega arith
 one_less false m y ys rest k h = omega (arith, k h)
 
@@ -38,7 +39,8 @@ or_rest : (c m : Bool) → c ≡ false → (c || m) ≡ true → m ≡ true
 or_rest true m e h = cc
 or_rest false m e h = h
 
-kept_by : (z x y : List ℕ) (ys : List (List ℕ)) (b : Bool) → bytes_eq x z ≡ false → bytes_eq y x ≡ b → (is_among z ys ≡ true → is_among z (removed x ys) ≡ true) → is_among z (y ∷ ys) ≡ true → is_among z (if b then ys else (y ∷ removed x ys)) ≡ true
+kept_by : (z x y : List ℕ) (ys : List (List ℕ)) (b : Bool) → bytes_eq x z ≡ false → bytes_eq y x ≡ b
+    → (is_among z ys ≡ true → is_among z (removed x ys) ≡ true) → is_among z (y ∷ ys) ≡ true → is_among z (if b then ys else (y ∷ removed x ys)) ≡ true
 kept_by z x y ys true ne e k h =
     let same : y ≡ x = (bytes_eq-Decides y x).0 e in
     or_rest (bytes_eq y z) (is_among z ys) (ap (λ w. bytes_eq w z) same ∙ ne) h
@@ -48,7 +50,8 @@ kept : (z x : List ℕ) (ys : List (List ℕ)) → bytes_eq x z ≡ false → is
 kept z x [] ne h = cc
 kept z x (y ∷ ys) ne h = kept_by z x y ys (bytes_eq y x) ne refl (kept z x ys ne) h
 
-all_kept : (x : List ℕ) (zs ys : List (List ℕ)) → is_among x zs ≡ false → list_all (λ n. is_among n ys) zs ≡ true → list_all (λ n. is_among n (removed x ys)) zs ≡ true
+all_kept : (x : List ℕ) (zs ys : List (List ℕ)) → is_among x zs ≡ false → list_all (λ n. is_among n ys) zs ≡ true
+    → list_all (λ n. is_among n (removed x ys)) zs ≡ true
 all_kept x [] ys ne h = refl
 all_kept x (z ∷ zs) ys ne h =
     let n = neither (bytes_eq z x) (is_among x zs) ne in

@@ -1,4 +1,5 @@
-//! The check of an advert: its first fault or the first limit that it exceeds, or the advert with the promise that there is none.
+//! Checks a contract that was read: it finds the first fault, or the first limit that is exceeded. A `Checked` holds a
+//! contract that has neither, and all code behind the check takes only these.
 #![tactic(auto)]
 
 pub mod checked;

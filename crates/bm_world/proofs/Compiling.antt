@@ -16,9 +16,9 @@ use Rattle.spec_run.specs.Setup.{Setup, contract_at}
 use Rattle.spec_run.specs.World.{World, is_advertised, is_promise_of, has_promised, have_promised}
 use Rattle.spec_run.specs.Compiled.{is_complete, instance_of, instance_if_complete, compiled_instance}
 use Rattle.spec_run.specs.Conditions.{IsSetup}
-use Rattle.spec_run.specs.Draft.{done, unless, settled}
+use Rattle.spec_run.specs.Pending.{done, unless, applied}
 use Rattle.spec_run.specs.Advertising.{arranged, deposit_names, advertise_row}
-use Rattle.spec_run.specs.Event.{draft}
+use Rattle.spec_run.specs.Event.{pending}
 use Rattle.theory_calculus.proofs.Names.{all_among}
 use Rattle.theory_world.proofs.Contracts.Checking.{contract_checked}
 use Rattle.theory_world.proofs.Contracts.Mentions.{a_person}
@@ -55,7 +55,7 @@ module _ (s : Setup) (w : World) where
   nothing_told : MoreTold w w
   nothing_told = record { new = []; advertised = sym (append-nil w.advertised); promises = refl }
 
-  quiet_told : (e : Event) → IsQuiet e → MoreTold w (draft s w e).world
+  quiet_told : (e : Event) → IsQuiet e → MoreTold w (pending s w e).world
   quiet_told e q =
       let t = told_stays s w e q in
       record { new = []; advertised = t.advertised ∙ sym (append-nil w.advertised); promises = t.promises }
@@ -67,7 +67,7 @@ module _ (s : Setup) (w : World) where
       { new = record { contract = contract; bindings = bindings } ∷ []; advertised = refl; promises = refl }
   advert_told contract bindings (Some reason) = nothing_told
 
-  more_told : (e : Event) → IsNoCommit e → MoreTold w (draft s w e).world
+  more_told : (e : Event) → IsNoCommit e → MoreTold w (pending s w e).world
   more_told (events.Advertise contract bindings) q = advert_told contract (arranged 0 (deposit_names s contract) bindings)
       (first_reason (advertise_row s w contract bindings))
   more_told (events.Commit contract party digests) q = absurd q
@@ -125,9 +125,9 @@ module _ (s : Setup) (setup : IsSetup s) (g : Configuration) (w : World) (keeps 
       and_from (is_advertised w k) (have_promised w k (participants a))
       (keeps.promises.told k one.0 (all_among (has_promised w k) (participants a) one.0 promised one.1)) promised
 
-  pub still_compiled : (e : Event) → IsNoCommit e → all_compiled s (draft s w e).world ≡ all_compiled s w
+  pub still_compiled : (e : Event) → IsNoCommit e → all_compiled s (pending s w e).world ≡ all_compiled s w
   still_compiled e q =
       let told = more_told s w e q in
-      same_from s w (settled w (draft s w e)) (λ k st h. (grows s g w keeps.book e).compiled k st h)
-      (told_back (settled w (draft s w e)) (record { new = told.new; advertised = told.advertised; promises = told.promises })) 0
+      same_from s w (applied w (pending s w e)) (λ k st h. (grows s g w keeps.book e).compiled k st h)
+      (told_back (applied w (pending s w e)) (record { new = told.new; advertised = told.advertised; promises = told.promises })) 0
       s.contracts

@@ -33,9 +33,9 @@ found_clear hash ms strings clear sub t h = by_found (message_of hash ms (hash t
 
 -- ---- where more is hashed
 
-front_found : (p : List ℕ → Bool) (xs ys : List (List ℕ)) (t : List ℕ) → find p xs ≡ Some t → find p (xs ++ ys) ≡ Some t
-front_found p [] ys t h = cc
-front_found p (x ∷ xs) ys t h = by_test (p x) h (front_found p xs ys t)
+prefix_found : (p : List ℕ → Bool) (xs ys : List (List ℕ)) (t : List ℕ) → find p xs ≡ Some t → find p (xs ++ ys) ≡ Some t
+prefix_found p [] ys t h = cc
+prefix_found p (x ∷ xs) ys t h = by_test (p x) h (prefix_found p xs ys t)
   where
     by_test : (b : Bool) → cond b (Some x) (find p xs) ≡ Some t → (find p xs ≡ Some t → find p (xs ++ ys) ≡ Some t)
         → cond b (Some x) (find p (xs ++ ys)) ≡ Some t
@@ -44,15 +44,15 @@ front_found p (x ∷ xs) ys t h = by_test (p x) h (front_found p xs ys t)
 
 noted_found : (hash : List ℕ → List ℕ) (ms : List (List ℕ)) (m d t : List ℕ) → message_of hash ms d ≡ Some t
     → message_of hash (noted hash ms m) d ≡ Some t
-noted_found hash ms m d t h = by_clash (is_some (evidence_of hash ms))
+noted_found hash ms m d t h = by_one_collision (is_some (evidence_of hash ms))
   where
     by_member : (b : Bool) → message_of hash (if b then ms else ms ++ m ∷ []) d ≡ Some t
     by_member true = h
-    by_member false = front_found (λ u. bytes_eq (hash u) d) ms (m ∷ []) t h
+    by_member false = prefix_found (λ u. bytes_eq (hash u) d) ms (m ∷ []) t h
 
-    by_clash : (b : Bool) → message_of hash (if b then ms else run_messages.noted ms m) d ≡ Some t
-    by_clash true = h
-    by_clash false = by_member (is_among m ms)
+    by_one_collision : (b : Bool) → message_of hash (if b then ms else run_messages.noted ms m) d ≡ Some t
+    by_one_collision true = h
+    by_one_collision false = by_member (is_among m ms)
 
 all_found : (hash : List ℕ → List ℕ) (xs ms : List (List ℕ)) (d t : List ℕ) → message_of hash ms d ≡ Some t
     → message_of hash (noted_all hash ms xs) d ≡ Some t

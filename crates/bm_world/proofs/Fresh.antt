@@ -12,7 +12,7 @@ use Rattle.spec_run.specs.World.{World}
 use Rattle.spec_data.specs.Messages.{noted_all}
 use Rattle.spec_run.specs.Conditions.{IsSetup}
 use Rattle.spec_run.specs.Ledger.{live_from, chain_of, strings_of, items_of}
-use Rattle.theory_world.proofs.Hashed.{no_clash, all_more, all_new, among_left}
+use Rattle.theory_world.proofs.Hashed.{no_collision, all_more, all_new, among_left}
 use Rattle.theory_world.proofs.Same.{place-true}
 use Rattle.theory_world.proofs.Ledger.Found.{found}
 use Rattle.theory_world.specs.Transactions.{IsNumbered}
@@ -37,7 +37,7 @@ module _ (s : Setup) (setup : IsSetup s) (g : Configuration) (w : World) (keeps 
           (numbers_from (length w.outputs) tx.outputs) (ap (verdict_for (chain_of w) tx) passed) in
           let new = noted_all w.hashed (strings_of s w tx ++ items_of tx) in
           absurd (fresh s setup.hash g w keeps.book (fits s setup g w keeps) (checks s setup g w keeps) new
-          (no_clash s.hash w.hashed (strings_of s w tx ++ items_of tx) keeps.clear calm)
+          (no_collision s.hash w.hashed (strings_of s w tx ++ items_of tx) keeps.clear calm)
           (λ t h. all_more w.hashed (strings_of s w tx ++ items_of tx) t h)
           tx fine (map (spent_number (live_from 0 w.outputs)) tx.inputs) (accepting s w tx _ accepted)
           (record {

@@ -7,7 +7,7 @@ use Rattle.spec_run.specs.declared.outcome.Reason.TheVariants as reason
 use Rattle.spec_run.specs.Setup.{Setup}
 use Rattle.spec_run.specs.World.{World}
 use Rattle.spec_run.specs.Conditions.{IsSetup}
-use Rattle.theory_world.proofs.Hashed.{no_clash, all_more}
+use Rattle.theory_world.proofs.Hashed.{no_collision, all_more}
 use Rattle.theory_run.specs.KeptBook.{KeptBook}
 use Rattle.theory_run.proofs.Facts.KeptCommitments.{promises_stay}
 use Rattle.theory_run.proofs.Facts.OwnLabels.{labels_later}
@@ -34,7 +34,7 @@ module _ (s : Setup) (setup : IsSetup s) (g : Configuration) (w : World) (keeps 
     promises = promises_stay s w heard keeps.promises refl (λ k h. h);
     labels = labels_later s w heard [] keeps.labels
         (record { hashed = λ t h. all_more w.hashed xs t h; adverts = λ k h. h; promises = λ k a h. h }) (λ k d h. inl h) (λ k d h. cc);
-    clear = no_clash s.hash w.hashed xs keeps.clear apart;
+    clear = no_collision s.hash w.hashed xs keeps.clear apart;
   }
 
 pub kept_heard : (s : Setup) (w : World) (xs : List (List ℕ)) → IsSetup s → Kept s w → collision s.hash w.hashed xs ≡ None

@@ -24,7 +24,7 @@ use Rattle.bm_hash.specs.Trails.{Hashed, Stops}
 use Rattle.bm_hash.proofs.Collisions.{hashed_adds, stopped_shows}
 use Rattle.bm_match.specs.Matches.{all_compiled}
 use Rattle.bm_world_board.specs.declared.board.Board.{Board}
-use Rattle.bm_world_board.specs.Drafts.{setup_of, world_of}
+use Rattle.bm_world_board.specs.Prepares.{setup_of, world_of}
 use Rattle.bm_world_opening.specs.Opening.{setup_with, IsOpened}
 use Rattle.bm_world.specs.declared.halt.Halt.{Halt}
 use Rattle.bm_world.specs.Playing.{IsWorld}

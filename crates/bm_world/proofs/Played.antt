@@ -1,4 +1,4 @@
--- What an event leaves, by what was drafted of it.
+-- What an event leaves, by what was prepared of it.
 use Rattle.std.proofs.Common.{◌≡◌, ℕ, List, [], ◌∷◌, ◌++◌, length, ◌+◌, ◌*◌, ◌<◌, ◌≤◌, Bool, true, false, Option, Some, None, refl, sym, ap, subst, ◌∙◌, append-nil, length-append, arith, inl, inr}
 use Rattle.std.specs.Prelude.{is_some, not, if◌then◌else◌}
 use Rattle.std.specs.List.{find}
@@ -15,9 +15,9 @@ use Rattle.spec_run.specs.Setup.{Setup}
 use Rattle.spec_run.specs.World.{World}
 use Rattle.spec_data.specs.Messages as run_messages
 use Rattle.spec_data.specs.Messages.{collision}
-use Rattle.spec_run.specs.Draft.{Draft, Went, Halted, is_guessed, guess, settled, settle}
-use Rattle.spec_run.specs.Draft as run
-use Rattle.spec_run.specs.Event.{draft, event, record_of}
+use Rattle.spec_run.specs.Pending.{Pending, Went, Halted, is_guessed, guess, applied, apply}
+use Rattle.spec_run.specs.Pending as run
+use Rattle.spec_run.specs.Event.{pending, event, record_of}
 use Rattle.spec_run.specs.Ledger.{live_from}
 use Rattle.spec_run.specs.Conditions.{IsSetup, IsEvent}
 use Rattle.spec_run.specs.Steps.{steps_of}
@@ -35,17 +35,17 @@ use Rattle.bm_hash.specs.Trails.{Hashed, Stops}
 use Rattle.bm_world_board.specs.declared.board.Board.{Board}
 use Rattle.bm_world.specs.declared.halt.Halt.{Halt}
 use Rattle.bm_world.specs.declared.halt.Halt.TheVariants.{Collided, Guessed, Memory}
-use Rattle.bm_world_board.specs.declared.drafted.Change.{Change}
-use Rattle.bm_world_board.specs.declared.drafted.Change.TheVariants.{Nothing, Blocks, Advertise, Commit, Append}
-use Rattle.bm_world_board.specs.declared.drafted.Drafted.{Drafted}
+use Rattle.bm_world_board.specs.declared.pending_change.Change.{Change}
+use Rattle.bm_world_board.specs.declared.pending_change.Change.TheVariants.{Nothing, Blocks, Advertise, Commit, Append}
+use Rattle.bm_world_board.specs.declared.pending_change.PendingChange.{PendingChange}
 use Rattle.bm_compile.specs.Numbered.{Numbered}
 use Rattle.bm_match.specs.Matches.{all_compiled}
 use Rattle.bm_world_board.specs.Compiling.{placed}
-use Rattle.bm_world_board.specs.Drafts.{world_of, tx_in, changed, IsReady, Drafts}
-use Rattle.bm_world_settle.specs.Settling.{IsMakeable, Makes}
-use Rattle.bm_world.specs.Playing.{most_records, HashedFront, JudgedHalts, Halts, Kept, IsPlayable, IsCompiledAfter, Passes, Tests, SameBoard, GoesOn, IsWorld}
+use Rattle.bm_world_board.specs.Prepares.{world_of, tx_in, changed, IsReady, Prepares}
+use Rattle.bm_world_apply.specs.Applying.{IsMakeable, Makes}
+use Rattle.bm_world.specs.Playing.{most_records, HashedPrefix, JudgedHalts, Halts, Kept, IsPlayable, IsCompiledAfter, Passes, Tests, SameBoard, GoesOn, IsWorld}
 use Rattle.bm_hash.proofs.Collisions.{hashed_adds, stopped_shows}
-use Rattle.bm_world_settle.proofs.Settled.{changed-hashed}
+use Rattle.bm_world_apply.proofs.Applied.{changed-hashed}
 use Rattle.bm_world.specs.Reached.{IsReached}
 use Rattle.bm_world.proofs.Heard.{kept_heard}
 use Rattle.bm_world.proofs.Found.{found_there, found_more}
@@ -70,8 +70,8 @@ makeable hash b messages (Append a) h = record {
   new = h.new;
 }
 
-pub makeable_of : (hash : List ℕ → List ℕ) (b : Board) (old new : List (List ℕ)) (d : Draft) (x : Drafted)
-    → Drafts hash (world_of b old) old new d x → IsMakeable b x.change
+pub makeable_of : (hash : List ℕ → List ℕ) (b : Board) (old new : List (List ℕ)) (d : Pending) (x : PendingChange)
+    → Prepares hash (world_of b old) old new d x → IsMakeable b x.change
 makeable_of hash b old new d x h = makeable hash b old x.change h.ready
 
 -- ---- halts
@@ -88,8 +88,8 @@ within_all : (hash : List ℕ → List ℕ) (ms xs : List (List ℕ)) → Within
 within_all hash ms [] m h = h
 within_all hash ms (x ∷ xs) m h = within_all hash (noted hash ms x) xs m (noted_within hash ms x m h)
 
-pub front_within : (hash : List ℕ → List ℕ) (old new xs : List (List ℕ)) → HashedFront hash old new xs → Within old new
-front_within hash old new xs h m i = subst (λ l. is_among m l ≡ true) (sym h.messages) (within_all hash old h.front m i)
+pub prefix_within : (hash : List ℕ → List ℕ) (old new xs : List (List ℕ)) → HashedPrefix hash old new xs → Within old new
+prefix_within hash old new xs h m i = subst (λ l. is_among m l ≡ true) (sym h.messages) (within_all hash old h.prefix m i)
 
 -- a halt that an error of the trail makes, which now has these messages
 pub record IsShown (hash : List ℕ → List ℕ) (messages : List (List ℕ)) (error : TrailError) (halt : Halt) : Type 0 where
@@ -109,16 +109,16 @@ shown_by digest old new messages error halt same memory collided unguessed = rec
 
 -- what collides is what halts the event
 cause_of : (s : Setup) (w : World) (e : Event) (halt : Halt)
-    → ((earlier later : List ℕ) → halt ≡ Collided earlier later → collision s.hash w.hashed ((draft s w e).hashes) ≡ Some (earlier, later))
+    → ((earlier later : List ℕ) → halt ≡ Collided earlier later → collision s.hash w.hashed ((pending s w e).hashes) ≡ Some (earlier, later))
     → ((party secret : List ℕ) → halt ≡ Guessed party secret → ⊥) → (h : run.Halt) → halt_of halt ≡ Some h → event s w e ≡ Halted h
 cause_of s w e (Collided earlier later) collided unguessed h is =
-    ap (λ o. settle w (draft s w e) o (guess s w.posted ((draft s w e).posts) ((draft s w e).allowed))) (collided earlier later refl)
+    ap (λ o. apply w (pending s w e) o (guess s w.posted ((pending s w e).posts) ((pending s w e).allowed))) (collided earlier later refl)
     ∙ ap Halted (same_Some (run.Collided earlier later) h is)
 cause_of s w e (Guessed party secret) collided unguessed h is = absurd (unguessed party secret refl)
 cause_of s w e Memory collided unguessed h is = absurd (none-some h is)
 
 -- memory is short after some of the strings
-pub short_halts : (s : Setup) (w : World) (new : List (List ℕ)) (e : Event) → HashedFront s.hash w.hashed new (draft s w e).hashes
+pub short_halts : (s : Setup) (w : World) (new : List (List ℕ)) (e : Event) → HashedPrefix s.hash w.hashed new (pending s w e).hashes
     → Halts s w new e Memory
 short_halts s w new e hashed = record {
   hashed = hashed;
@@ -126,26 +126,26 @@ short_halts s w new e hashed = record {
   shown = λ earlier later x. cc;
 }
 
--- the drafting stopped
-pub drafting_halts : (s : Setup) (w : World) (new : List (List ℕ)) (e : Event) (error : TrailError) (halt : Halt)
-    → evidence_of s.hash w.hashed ≡ None → Stops s.hash w.hashed new ((draft s w e).hashes) error → IsShown s.hash new error halt
+-- the preparing stopped
+pub preparing_halts : (s : Setup) (w : World) (new : List (List ℕ)) (e : Event) (error : TrailError) (halt : Halt)
+    → evidence_of s.hash w.hashed ≡ None → Stops s.hash w.hashed new ((pending s w e).hashes) error → IsShown s.hash new error halt
     → Halts s w new e halt
-drafting_halts s w new e trail.Collided halt clear h is =
-    let i = stopped_shows s.hash w.hashed new ((draft s w e).hashes) clear h in
+preparing_halts s w new e trail.Collided halt clear h is =
+    let i = stopped_shows s.hash w.hashed new ((pending s w e).hashes) clear h in
     record {
       hashed = record {
-        front = (draft s w e).hashes;
+        prefix = (pending s w e).hashes;
         back = [];
-        strings = sym (append-nil (draft s w e).hashes);
+        strings = sym (append-nil (pending s w e).hashes);
         messages = (h.collided refl).0;
       };
       cause = cause_of s w e halt (λ earlier later x. sym i.0 ∙ is.collided earlier later x) is.unguessed;
       shown = is.collided;
     }
-drafting_halts s w new e trail.Memory halt clear h is =
+preparing_halts s w new e trail.Memory halt clear h is =
     let m = h.memory refl in
     subst (Halts s w new e) (sym (is.memory refl))
-    (short_halts s w new e (record { front = m.0; back = m.1; strings = m.2; messages = m.3 }))
+    (short_halts s w new e (record { prefix = m.0; back = m.1; strings = m.2; messages = m.3 }))
 
 -- the halt that is kept
 pub halts_again : (s : Setup) (w : World) (new : List (List ℕ)) (e : Event) (halt kept : Halt) → IsAgain halt kept → Halts s w new e halt
@@ -154,29 +154,29 @@ halts_again s w new e halt kept (inl same) h = subst (Halts s w new e) (sym same
 halts_again s w new e halt kept (inr memory) h = subst (Halts s w new e) (sym memory) (short_halts s w new e h.hashed)
 
 -- all is hashed
-all_hashed : (hash : List ℕ → List ℕ) (old new xs : List (List ℕ)) → Hashed hash old new xs → HashedFront hash old new xs
-all_hashed hash old new xs h = record { front = xs; back = []; strings = sym (append-nil xs); messages = h.all }
+all_hashed : (hash : List ℕ → List ℕ) (old new xs : List (List ℕ)) → Hashed hash old new xs → HashedPrefix hash old new xs
+all_hashed hash old new xs h = record { prefix = xs; back = []; strings = sym (append-nil xs); messages = h.all }
 
-module _ (s : Setup) (w v : World) (new : List (List ℕ)) (e : Event) (x : Drafted) (clear : evidence_of s.hash w.hashed ≡ None)
-    (drafts : Drafts s.hash v w.hashed new (draft s w e) x) where
-  heard : (new ≡ run_messages.noted_all w.hashed (draft s w e).hashes) × (collision s.hash w.hashed (draft s w e).hashes ≡ None)
-  heard = hashed_adds s.hash w.hashed new ((draft s w e).hashes) clear drafts.hashed
+module _ (s : Setup) (w v : World) (new : List (List ℕ)) (e : Event) (x : PendingChange) (clear : evidence_of s.hash w.hashed ≡ None)
+    (prepares : Prepares s.hash v w.hashed new (pending s w e) x) where
+  heard : (new ≡ run_messages.noted_all w.hashed (pending s w e).hashes) × (collision s.hash w.hashed (pending s w e).hashes ≡ None)
+  heard = hashed_adds s.hash w.hashed new ((pending s w e).hashes) clear prepares.hashed
 
   same_guess : find (is_guessed w.posted x.posts x.allowed) s.header.secrets
-      ≡ guess s w.posted ((draft s w e).posts) ((draft s w e).allowed)
-  same_guess = ap (λ (d : Draft). guess s w.posted d.posts d.allowed) drafts.same
+      ≡ guess s w.posted ((pending s w e).posts) ((pending s w e).allowed)
+  same_guess = ap (λ (d : Pending). guess s w.posted d.posts d.allowed) prepares.same
 
   -- memory is short
   pub memory_halts : Halts s w new e Memory
-  memory_halts = short_halts s w new e (all_hashed s.hash w.hashed new (draft s w e).hashes drafts.hashed)
+  memory_halts = short_halts s w new e (all_hashed s.hash w.hashed new (pending s w e).hashes prepares.hashed)
 
   -- a secret is guessed
   pub guess_halts : (held : HeldSecret) → find (is_guessed w.posted x.posts x.allowed) s.header.secrets ≡ Some held
       → Halts s w new e (Guessed held.party held.name)
   guess_halts held found = record {
-    hashed = all_hashed s.hash w.hashed new (draft s w e).hashes drafts.hashed;
+    hashed = all_hashed s.hash w.hashed new (pending s w e).hashes prepares.hashed;
     cause = λ h is.
-        (λ i. settle w (draft s w e) (heard.1 i) ((sym same_guess ∙ found) i))
+        (λ i. apply w (pending s w e) (heard.1 i) ((sym same_guess ∙ found) i))
         ∙ ap Halted (same_Some (run.Guessed held.party held.name) h is);
     shown = λ earlier later y. cc;
   }
@@ -186,72 +186,72 @@ module _ (s : Setup) (w v : World) (new : List (List ℕ)) (e : Event) (x : Draf
       → find (is_guessed w.posted x.posts x.allowed) s.header.secrets ≡ None → IsCompiledAfter s w compiled e entry
       → Passes s w v new compiled e x entry
   passes_by compiled entry unguessed placed = record {
-    went = λ i. settle w (draft s w e) (heard.1 i) ((sym same_guess ∙ unguessed) i);
-    drafts = drafts;
+    went = λ i. apply w (pending s w e) (heard.1 i) ((sym same_guess ∙ unguessed) i);
+    prepares = prepares;
     placed = placed;
   }
 
 -- ---- an event that goes on
 
-module _ (s : Setup) (w v : World) (new : List (List ℕ)) (compiled : List (Option Numbered)) (e : Event) (x : Drafted)
+module _ (s : Setup) (w v : World) (new : List (List ℕ)) (compiled : List (Option Numbered)) (e : Event) (x : PendingChange)
     (entry : Option (ℕ × Numbered)) (clear : evidence_of s.hash w.hashed ≡ None)
     (passes : Passes s w v new compiled e x entry) where
-  abbrev d : Draft
-  d = draft s w e
+  abbrev d : Pending
+  d = pending s w e
 
-  messages_are : new ≡ run_messages.noted_all w.hashed (draft s w e).hashes
-  messages_are = (hashed_adds s.hash w.hashed new (draft s w e).hashes clear passes.drafts.hashed).0
+  messages_are : new ≡ run_messages.noted_all w.hashed (pending s w e).hashes
+  messages_are = (hashed_adds s.hash w.hashed new (pending s w e).hashes clear passes.prepares.hashed).0
 
   pub tests_by : Tests s w new e (not (is_refused x.outcome))
   tests_by = record {
     went = passes.went;
     hashed = messages_are;
-    clear = passes.drafts.hashed.clear;
-    passes = ap (λ (y : Draft). not (is_refused y.outcome)) passes.drafts.same;
+    clear = passes.prepares.hashed.clear;
+    passes = ap (λ (y : Pending). not (is_refused y.outcome)) passes.prepares.same;
   }
 
-  -- what was drafted is made, and the contract is placed
+  -- what was prepared is made, and the contract is placed
   pub goes_by : (mid made last : Board) (trace later : List Record) → v ≡ world_of mid w.hashed → mid.exchange.posted ≡ w.posted
       → mid.compiled ≡ compiled
       → Makes mid made x → last ≡ record made { compiled = last.compiled } → last.compiled ≡ placed entry made.compiled
       → later ≡ trace ++ record { event = e; outcome = x.outcome; tx = tx_in x.change } ∷ [] → GoesOn s w last new trace later e x.outcome
   goes_by mid made last trace later at posted before makes rest put t =
-      let world : changed (world_of mid w.hashed) x.change ≡ (draft s w e).world =
-      ap (λ y. changed y x.change) (sym at) ∙ ap (λ (y : Draft). y.world) passes.drafts.same in
-      let posts : x.posts ≡ (draft s w e).posts = ap (λ (y : Draft). y.posts) passes.drafts.same in
-      let next : world_of last new ≡ settled w (draft s w e) =
+      let world : changed (world_of mid w.hashed) x.change ≡ (pending s w e).world =
+      ap (λ y. changed y x.change) (sym at) ∙ ap (λ (y : Pending). y.world) passes.prepares.same in
+      let posts : x.posts ≡ (pending s w e).posts = ap (λ (y : Pending). y.posts) passes.prepares.same in
+      let next : world_of last new ≡ applied w (pending s w e) =
       ap (λ b. world_of b new) rest
       ∙ makes.world new
       ∙ ap (λ (y : World). record y { posted = mid.exchange.posted ++ x.posts }) (changed-hashed (world_of mid w.hashed) new x.change)
       ∙ (λ i. record (world i) { hashed = messages_are i; posted = posted i ++ posts i }) in
       record {
         goes = record {
-          went = passes.went ∙ (λ i. Went (draft s w e) (sym next i));
-          outcome = ap (λ (y : Draft). y.outcome) passes.drafts.same;
-          trace = t ∙ ap (λ (y : Draft). trace ++ record_of e y ∷ []) passes.drafts.same;
+          went = passes.went ∙ (λ i. Went (pending s w e) (sym next i));
+          outcome = ap (λ (y : Pending). y.outcome) passes.prepares.same;
+          trace = t ∙ ap (λ (y : Pending). trace ++ record_of e y ∷ []) passes.prepares.same;
         };
         compiled = put ∙ ap (placed entry) (makes.compiled ∙ before) ∙ passes.placed ∙ ap (all_compiled s) (sym next);
-        clear = passes.drafts.hashed.clear;
+        clear = passes.prepares.hashed.clear;
       }
 
 -- ---- what is kept
 
-pub kept_after : (s : Setup) (w next : World) (e : Event) → IsSetup s → IsEvent s e → Kept s w → IsCalm s w next (draft s w e) → Kept s next
+pub kept_after : (s : Setup) (w next : World) (e : Event) → IsSetup s → IsEvent s e → Kept s w → IsCalm s w next (pending s w e) → Kept s next
 kept_after s w next e setup is kept calm = record {
-  config = after_steps kept.config (steps_of s [] kept.config w (settled w (draft s w e)) e (draft s w e));
-  books = subst (λ v. KeptBooks s (after_steps kept.config (steps_of s [] kept.config w (settled w (draft s w e)) e (draft s w e))) v)
+  config = after_steps kept.config (steps_of s [] kept.config w (applied w (pending s w e)) e (pending s w e));
+  books = subst (λ v. KeptBooks s (after_steps kept.config (steps_of s [] kept.config w (applied w (pending s w e)) e (pending s w e))) v)
       calm.left (keeps_after s setup [] kept.config w kept.books e is calm.calm);
 }
 
 -- there are few outputs after one more event
 few_after : (s : Setup) → IsSetup s → (w next : World) (before trace : List Record) (e : Event) → IsEvent s e
-    → IsCalm s w next (draft s w e) → trace ≡ before ++ record_of e (draft s w e) ∷ []
+    → IsCalm s w next (pending s w e) → trace ≡ before ++ record_of e (pending s w e) ∷ []
     → length w.outputs ≤ most_header_deposits + most_gift_outputs * length before
     → length next.outputs ≤ most_header_deposits + most_gift_outputs * length trace
 few_after s setup w next before trace e is calm at few =
     let grows = event_grows s setup w e is in
-    let same : length (draft s w e).world.outputs ≡ length next.outputs = ap (λ (v : World). length v.outputs) calm.left in
-    let count = ap length at ∙ length-append before (record_of e (draft s w e) ∷ []) in
+    let same : length (pending s w e).world.outputs ≡ length next.outputs = ap (λ (v : World). length v.outputs) calm.left in
+    let count = ap length at ∙ length-append before (record_of e (pending s w e) ∷ []) in
     omega (arith, grows, same, count, few)
 
 -- the world after an event that went on
@@ -259,7 +259,7 @@ pub world_after : (s t : Setup) (old new : Board) (messages later : List (List �
     (outcome : Outcome) (halt : Option Halt) → IsWorld s old messages before None → IsEvent s e
     → GoesOn s (world_of old messages) new later before trace e outcome → SameBoard old new → t ≡ s → IsWorld t new later trace halt
 world_after s t old new messages later before trace e outcome halt was is goes same at =
-    let calm = calm_of s (world_of old messages) (world_of new later) (draft s (world_of old messages) e) goes.goes.went in
+    let calm = calm_of s (world_of old messages) (world_of new later) (pending s (world_of old messages) e) goes.goes.went in
     let reached_there : IsReached s (world_of new later) trace =
     subst (IsReached s (world_of new later)) (sym goes.goes.trace)
     (reached_more s (world_of old messages) (world_of new later) before e was.reached is calm) in
@@ -277,16 +277,16 @@ world_after s t old new messages later before trace e outcome halt was is goes s
 
 -- the world after a halt
 pub world_halted : (s t : Setup) (b : Board) (old later xs : List (List ℕ)) (trace : List Record) (halt : Halt)
-    → IsWorld s b old trace None → HashedFront s.hash old later xs → t ≡ s → IsWorld t b later trace (Some halt)
-world_halted s t b old later xs trace halt was front at = subst (λ x. IsWorld x b later trace (Some halt)) (sym at) (record {
+    → IsWorld s b old trace None → HashedPrefix s.hash old later xs → t ≡ s → IsWorld t b later trace (Some halt)
+world_halted s t b old later xs trace halt was prefix at = subst (λ x. IsWorld x b later trace (Some halt)) (sym at) (record {
   setup = was.setup;
   accounts = was.accounts;
   known = was.known;
   compiled = was.compiled;
   few = was.few;
-  reached = reached_later s (world_of b old) later trace (front_within s.hash old later xs front) was.reached;
-  found = subst (λ ms. AreFound s.hash ms b.exchange.posted) (sym front.messages)
-      (found_more s.hash old front.front b.exchange.posted was.found);
+  reached = reached_later s (world_of b old) later trace (prefix_within s.hash old later xs prefix) was.reached;
+  found = subst (λ ms. AreFound s.hash ms b.exchange.posted) (sym prefix.messages)
+      (found_more s.hash old prefix.prefix b.exchange.posted was.found);
   kept = λ h. cc;
   clear = λ h. cc;
 })
@@ -329,7 +329,7 @@ world_hears s t b old later xs trace halt was at hashed clear calm = subst (λ x
 
 -- ---- a transaction that is judged
 
-short_judged : (hash : List ℕ → List ℕ) (old new xs : List (List ℕ)) → HashedFront hash old new xs → JudgedHalts hash old new xs Memory
+short_judged : (hash : List ℕ → List ℕ) (old new xs : List (List ℕ)) → HashedPrefix hash old new xs → JudgedHalts hash old new xs Memory
 short_judged hash old new xs hashed = record {
   hashed = hashed;
   collided = λ earlier later x. cc;
@@ -341,7 +341,7 @@ short_judged hash old new xs hashed = record {
 pub judged_halts : (hash : List ℕ → List ℕ) (old new xs : List (List ℕ)) (error : TrailError) (halt : Halt) → evidence_of hash old ≡ None
     → Stops hash old new xs error → IsShown hash new error halt → JudgedHalts hash old new xs halt
 judged_halts hash old new xs trail.Collided halt clear h is = record {
-  hashed = record { front = xs; back = []; strings = sym (append-nil xs); messages = (h.collided refl).0 };
+  hashed = record { prefix = xs; back = []; strings = sym (append-nil xs); messages = (h.collided refl).0 };
   collided = λ earlier later x. sym (stopped_shows hash old new xs clear h).0 ∙ is.collided earlier later x;
   shown = is.collided;
   unguessed = is.unguessed;
@@ -349,7 +349,7 @@ judged_halts hash old new xs trail.Collided halt clear h is = record {
 judged_halts hash old new xs trail.Memory halt clear h is =
     let m = h.memory refl in
     subst (JudgedHalts hash old new xs) (sym (is.memory refl))
-    (short_judged hash old new xs (record { front = m.0; back = m.1; strings = m.2; messages = m.3 }))
+    (short_judged hash old new xs (record { prefix = m.0; back = m.1; strings = m.2; messages = m.3 }))
 
 -- the halt that is kept
 pub judged_again : (hash : List ℕ → List ℕ) (old new xs : List (List ℕ)) (halt kept : Halt) → IsAgain halt kept

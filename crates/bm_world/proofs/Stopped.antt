@@ -1,7 +1,7 @@
 -- A call that stopped: what is answered after a halt, and what is kept of it.
 use Rattle.std.proofs.Common.{◌≡◌, Option, Some, None, refl, sym, ap, subst, ◌∙◌, inl, inr}
 use Rattle.std.proofs.lemmas.Option.{none-some, same_Some}
-use Rattle.spec_run.specs.Draft as run
+use Rattle.spec_run.specs.Pending as run
 use Rattle.bm_world.specs.declared.halt.Halt.{Halt}
 use Rattle.bm_world.specs.declared.halt.Halt.TheVariants.{Collided, Guessed, Memory}
 use Rattle.bm_world.specs.Halts.{halt_of, IsAgain}
@@ -19,7 +19,7 @@ stopped_again p kept result why at again = record {
   cause = λ none. absurd (none-some kept (sym none ∙ at));
 }
 
--- it's kept, unless it is want of memory
+-- it's kept, unless it is out of memory
 pub kept_halt : {H : Type 0} (old new : Played H) (halt : Halt) (why : Type 0) → StoppedBy old new halt why → (halt ≡ Memory → ⊥)
     → new.halt ≡ Some halt
 kept_halt old new halt why h other = by_halt old.halt refl
@@ -32,7 +32,7 @@ kept_halt old new halt why h other = by_halt old.halt refl
     by_halt None at = h.halted at
     by_halt (Some earlier) at = let a = h.again earlier at in by_again earlier at a.0 a.1
 
--- but for want of memory it is a halt of the definitions
+-- but as memory ran out it is a halt of the definitions
 pub halt_named : (halt : Halt) → (halt ≡ Memory → ⊥) → (h : run.Halt) × (halt_of halt ≡ Some h)
 halt_named (Collided earlier later) other = (run.Collided earlier later, refl)
 halt_named (Guessed party secret) other = (run.Guessed party secret, refl)

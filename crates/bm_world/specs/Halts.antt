@@ -1,10 +1,10 @@
 -- What halts a run, as the definitions have it.
 use Rattle.std.specs.Prelude.{◌≡◌, ◌⊎◌, Option, Some, None}
-use Rattle.spec_run.specs.Draft as run
+use Rattle.spec_run.specs.Pending as run
 use Rattle.bm_world.specs.declared.halt.Halt.{Halt}
 use Rattle.bm_world.specs.declared.halt.Halt.TheVariants.{Collided, Guessed, Memory}
 
--- the halt that it is; want of memory is none
+-- the halt that it is; out of memory is none
 abbrev pub halt_of : Halt → Option run.Halt
 halt_of (Collided earlier later) = Some (run.Collided earlier later)
 halt_of (Guessed party secret) = Some (run.Guessed party secret)

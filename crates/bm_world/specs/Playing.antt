@@ -17,9 +17,9 @@ use Rattle.spec_bitcoin.specs.declared.verdict.Refusal.{Refusal}
 use Rattle.spec_bitcoin.specs.Verdict.{refusal_of}
 use Rattle.spec_run.specs.Ledger.{live_from, strings_of}
 use Rattle.spec_run.specs.Values.{is_refused}
-use Rattle.spec_run.specs.Draft.{Halted, settled}
-use Rattle.spec_run.specs.Draft as run
-use Rattle.spec_run.specs.Event.{draft, event, record_of}
+use Rattle.spec_run.specs.Pending.{Halted, applied}
+use Rattle.spec_run.specs.Pending as run
+use Rattle.spec_run.specs.Event.{pending, event, record_of}
 use Rattle.bm_hash.specs.Messages.{evidence_of, noted_all}
 use Rattle.theory_run.specs.KeptRuns.{KeptBooks}
 use Rattle.bm_world.specs.declared.halt.Halt.{Halt}
@@ -29,8 +29,8 @@ use Rattle.bm_compile.specs.Numbered.{Numbered}
 use Rattle.bm_match.specs.Matches.{all_compiled}
 use Rattle.bm_world_board.specs.declared.board.Board.{Board}
 use Rattle.bm_world_board.specs.Compiling.{placed}
-use Rattle.bm_world_board.specs.declared.drafted.Drafted.{Drafted}
-use Rattle.bm_world_board.specs.Drafts.{world_of, Drafts}
+use Rattle.bm_world_board.specs.declared.pending_change.PendingChange.{PendingChange}
+use Rattle.bm_world_board.specs.Prepares.{world_of, Prepares}
 use Rattle.bm_world.specs.Reached.{IsReached, AreFound}
 use Rattle.bm_world_fire.specs.Shown.{ArePostsHashed}
 use Rattle.bm_world_board.specs.Accounts.{account_of}
@@ -52,22 +52,22 @@ setup_in digest p = record { hash = digest p.hasher; header = p.header; contract
 
 -- ---- answers
 
--- the event went on: it came to its draft, which is recorded, and left this world
+-- the event went on: it came to its pending effect, which is recorded, and left this world
 pub record Goes (s : Setup) (w next : World) (before later : List Record) (e : Event) (result : Outcome) : Type 0 where
-  pub went : event s w e ≡ run.Went (draft s w e) next
-  pub outcome : result ≡ (draft s w e).outcome
-  pub trace : later ≡ before ++ record_of e (draft s w e) ∷ []
+  pub went : event s w e ≡ run.Went (pending s w e) next
+  pub outcome : result ≡ (pending s w e).outcome
+  pub trace : later ≡ before ++ record_of e (pending s w e) ∷ []
 
--- the first of these strings were hashed in turn, up to a clash at most
-pub record HashedFront (hash : List ℕ → List ℕ) (old new all : List (List ℕ)) : Type 0 where
-  pub front : List (List ℕ)
+-- the first of these strings were hashed in turn, up to a collision at most
+pub record HashedPrefix (hash : List ℕ → List ℕ) (old new all : List (List ℕ)) : Type 0 where
+  pub prefix : List (List ℕ)
   pub back : List (List ℕ)
-  pub strings : all ≡ front ++ back
-  pub messages : new ≡ noted_all hash old front
+  pub strings : all ≡ prefix ++ back
+  pub messages : new ≡ noted_all hash old prefix
 
--- the event halted: at a collision, which the messages then show, at a guess, or for want of memory
+-- the event halted: at a collision, which the messages then show, at a guess, or as memory ran out
 pub record Halts (s : Setup) (w : World) (messages : List (List ℕ)) (e : Event) (halt : Halt) : Type 0 where
-  pub hashed : HashedFront s.hash w.hashed messages (draft s w e).hashes
+  pub hashed : HashedPrefix s.hash w.hashed messages (pending s w e).hashes
   pub cause : (h : run.Halt) → halt_of halt ≡ Some h → event s w e ≡ Halted h
   pub shown : (earlier later : List ℕ) → halt ≡ Collided earlier later → evidence_of s.hash messages ≡ Some (earlier, later)
 
@@ -111,21 +111,21 @@ pub record IsWorld (s : Setup) (b : Board) (messages : List (List ℕ)) (trace :
 
 -- with this contract placed, the board has what the contracts are compiled to after an event
 abbrev pub IsCompiledAfter : Setup → World → List (Option Numbered) → Event → Option (ℕ × Numbered) → Type 0
-IsCompiledAfter s w compiled e entry = placed entry compiled ≡ all_compiled s (draft s w e).world
+IsCompiledAfter s w compiled e entry = placed entry compiled ≡ all_compiled s (pending s w e).world
 
--- the event goes on, these are its messages, and this was drafted in the second world, with the contract that is compiled then
-pub record Passes (s : Setup) (w v : World) (messages : List (List ℕ)) (compiled : List (Option Numbered)) (e : Event) (x : Drafted)
+-- the event goes on, these are its messages, and this was prepared in the second world, with the contract that is compiled then
+pub record Passes (s : Setup) (w v : World) (messages : List (List ℕ)) (compiled : List (Option Numbered)) (e : Event) (x : PendingChange)
     (entry : Option (ℕ × Numbered)) : Type 0 where
-  pub went : event s w e ≡ run.Went (draft s w e) (settled w (draft s w e))
-  pub drafts : Drafts s.hash v w.hashed messages (draft s w e) x
+  pub went : event s w e ≡ run.Went (pending s w e) (applied w (pending s w e))
+  pub prepares : Prepares s.hash v w.hashed messages (pending s w e) x
   pub placed : IsCompiledAfter s w compiled e entry
 
 -- the event would go on, these are then the messages, and whether it wouldn't be refused
 pub record Tests (s : Setup) (w : World) (messages : List (List ℕ)) (e : Event) (result : Bool) : Type 0 where
-  pub went : event s w e ≡ run.Went (draft s w e) (settled w (draft s w e))
-  pub hashed : messages ≡ heard_all w.hashed (draft s w e).hashes
+  pub went : event s w e ≡ run.Went (pending s w e) (applied w (pending s w e))
+  pub hashed : messages ≡ heard_all w.hashed (pending s w e).hashes
   pub clear : evidence_of s.hash messages ≡ None
-  pub passes : result ≡ not (is_refused (draft s w e).outcome)
+  pub passes : result ≡ not (is_refused (pending s w e).outcome)
 
 -- what never changes is the same
 pub record SameBoard (old new : Board) : Type 0 where
@@ -186,17 +186,17 @@ pub record Judged {H : Type 0} (digest : H → List ℕ → List ℕ) (old new :
 
 -- a transaction that was judged halted the run: its strings collided, as the messages then show, or memory was short
 pub record JudgedHalts (hash : List ℕ → List ℕ) (old new strings : List (List ℕ)) (halt : Halt) : Type 0 where
-  pub hashed : HashedFront hash old new strings
+  pub hashed : HashedPrefix hash old new strings
   pub collided : (earlier later : List ℕ) → halt ≡ Collided earlier later → collision hash old strings ≡ Some (earlier, later)
   pub shown : (earlier later : List ℕ) → halt ≡ Collided earlier later → evidence_of hash new ≡ Some (earlier, later)
   pub unguessed : (party secret : List ℕ) → halt ≡ Guessed party secret → ⊥
 
 -- an event would go on, and come to this
 pub record Tested {H : Type 0} (digest : H → List ℕ → List ℕ) (old new : Played H) (e : Event) (result : Bool) : Type 0 where
-  pub hears : OnlyHears old new (heard_all old.world.hashed (draft (setup_in digest old) old.world e).hashes)
+  pub hears : OnlyHears old new (heard_all old.world.hashed (pending (setup_in digest old) old.world e).hashes)
   pub goes : event (setup_in digest old) old.world e
-      ≡ run.Went (draft (setup_in digest old) old.world e) (settled old.world (draft (setup_in digest old) old.world e))
-  pub passes : result ≡ not (is_refused (draft (setup_in digest old) old.world e).outcome)
+      ≡ run.Went (pending (setup_in digest old) old.world e) (applied old.world (pending (setup_in digest old) old.world e))
+  pub passes : result ≡ not (is_refused (pending (setup_in digest old) old.world e).outcome)
 
 abbrev pub StoppedJudging : {H : Type 0} → (H → List ℕ → List ℕ) → Played H → Played H → Tx → Halt → Type 0
 StoppedJudging digest old new tx halt = StoppedBy old new halt (

@@ -26,7 +26,7 @@ pub record IsReached (s : Setup) (w : World) (trace : List Record) : Type 0 wher
   pub events : AllByRecursion (IsEvent s) (events_of trace)
   pub passed : List Passed
   pub plays : played s (events_of trace) ≡ record { passed = passed; halt = None }
-  pub records : map (λ p. record_of p.event p.draft) passed ≡ trace
+  pub records : map (λ p. record_of p.event p.pending) passed ≡ trace
   pub left : IsLeft (world_after (opening_world s) passed) w
 
 -- each of these strings is the message of its digest

@@ -10,7 +10,7 @@ use bm_hash::{Hash32, Trail, TrailError};
 use spec_data::{Bytes, OutOfMemory};
 use std::alloc::Global;
 
-// The two messages of the trail's first clash, copied.
+// The two messages of the trail's first collision, copied.
 fn evidence_of_trail<H: Hash32 + Drop>(
     alloc: Global,
     trail: &Trail<H>,
@@ -27,7 +27,7 @@ fn evidence_of_trail<H: Hash32 + Drop>(
     }
 }
 
-/// What halts a run by an error of its trail: the two messages that the trail shows, or want of memory.
+/// What halts a run by an error of its trail: the two messages that the trail shows, or out of memory.
 pub(crate) fn trail_halt<H: Hash32 + Drop>(
     alloc: Global,
     trail: &Trail<H>,

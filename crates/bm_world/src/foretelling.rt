@@ -2,16 +2,16 @@
 
 ghost use Rattle.std.specs.Prelude.{◌≡◌, IfOk, IfErr};
 ghost use Rattle.spec_run.specs.Conditions.{IsEvent};
-ghost use Rattle.bm_world_board.specs.Drafts.{setup_of, world_of, Signs};
+ghost use Rattle.bm_world_board.specs.Prepares.{setup_of, world_of, Signs};
 ghost use Rattle.bm_hash.specs.Trails.{StopsAlong};
 ghost use Rattle.spec_run.specs.Event as run;
 ghost use Rattle.bm_world.specs.Playing.{IsPlayable};
 ghost use Rattle.bm_world.specs.Foreseeing.{Foretells};
 
-use crate::drafting::draft;
+use crate::preparing::pending;
 use bm_hash::{Hash32, Trail, TrailError};
+use bm_world_apply::first_guessed;
 use bm_world_board::Board;
-use bm_world_settle::first_guessed;
 use spec_run::{Event, Outcome};
 use std::alloc::Global;
 
@@ -29,9 +29,9 @@ fn try_outcome<H: Hash32 + Drop>(
     ensures foretells { IfOk result (Foretells (setup_of (H.digest_of trail.old.hasher) board.old) (world_of board.old trail.old.messages)
         trail.new.messages event.now) }
     ensures stops { IfErr result (StopsAlong H.digest_of trail.old trail.new
-        ((run.draft (setup_of (H.digest_of trail.old.hasher) board.old) (world_of board.old trail.old.messages) event.now).hashes)) }
+        ((run.pending (setup_of (H.digest_of trail.old.hasher) board.old) (world_of board.old trail.old.messages) event.now).hashes)) }
 {
-    let answer = draft(alloc, trail, board, event)?;
+    let answer = pending(alloc, trail, board, event)?;
     let guessed = first_guessed(
         alloc,
         board.header.secrets.as_slice(),
@@ -60,7 +60,7 @@ pub(crate) fn foretell<H: Hash32 + Drop>(
     ensures foretells { IfOk result (Foretells (setup_of (H.digest_of trail.old.hasher) board.old) (world_of board.old trail.old.messages)
         trail.new.messages event.now) }
     ensures stops { IfErr result (StopsAlong H.digest_of trail.old trail.new
-        ((run.draft (setup_of (H.digest_of trail.old.hasher) board.old) (world_of board.old trail.old.messages) event.now).hashes)) }
+        ((run.pending (setup_of (H.digest_of trail.old.hasher) board.old) (world_of board.old trail.old.messages) event.now).hashes)) }
 {
     let signed = board.book.count();
     let answer = try_outcome(alloc, trail, board, event);

@@ -14,7 +14,7 @@ pub enum Halt {
     Collided(Bytes, Bytes),
     /// A secret was posted by an event that isn't its owner's reveal of it.
     Guessed { party: Name, secret: Name },
-    /// Want of memory.
+    /// Out of memory.
     Memory,
 }
 
@@ -43,7 +43,7 @@ impl Halt {
         })
     }
 
-    /// The same once more: an equal one, or want of memory where there is none for its messages.
+    /// The same once more: an equal one, or out of memory where there is none for its messages.
     pub fn again(&self, alloc: Global) -> Halt
         ensures { IsAgain self.now result }
     {
@@ -54,7 +54,7 @@ impl Halt {
     }
 }
 
-/// Keeps a halt for later calls, and answers it: want of memory where there is none for two of it.
+/// Keeps a halt for later calls, and answers it: out of memory where there is none for two of it.
 pub(crate) fn keep(alloc: Global, kept: &mut Option<Halt>, halt: Halt) -> Halt
     ensures kept { kept.new ≡ Some result }
     ensures same { IsAgain halt result }

@@ -1,7 +1,7 @@
-//! The world of a run, event by event.
+//! Plays a run, an event at a time: the ledger, what was signed and said, and the first halt. This is the crate behind
+//! `play`; the crates `bm_world_*` are its parts.
 #![tactic(auto)]
 
-mod drafting;
 mod evidence;
 mod foretelling;
 mod halt;
@@ -9,6 +9,7 @@ mod handing;
 mod passing;
 mod placing;
 mod playing;
+mod preparing;
 mod standing;
 mod telling;
 mod world;

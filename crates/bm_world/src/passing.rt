@@ -1,10 +1,10 @@
-//! Blocks that come within the limit of time: nothing is drafted of them, since they ask for no memory but that of their record.
+//! Blocks that come within the limit of time: nothing is prepared of them, since they ask for no memory but that of their record.
 
 ghost use Rattle.std.specs.Prelude.{◌≡◌, ℕ, ◌+◌, ◌<◌, ◌≤◌, ◌∷◌, ◌++◌, [], None, IfOk, IfErr, IfNone, IfSome, OnOk, OnErr};
 ghost use Rattle.spec_data.specs.Ranges.{last_height};
 ghost use Rattle.spec_run.specs.declared.event.Event.TheVariants as events;
 ghost use Rattle.spec_run.specs.declared.outcome.Outcome.TheVariants as outcomes;
-ghost use Rattle.bm_world_board.specs.Drafts.{setup_of, world_of};
+ghost use Rattle.bm_world_board.specs.Prepares.{setup_of, world_of};
 ghost use Rattle.bm_world.specs.Playing.{IsPlayable, SameBoard, GoesOn, Halts};
 
 use crate::halt::Halt;
@@ -44,7 +44,7 @@ fn record_blocks(board: &mut Board, trace: &mut Seq<Record>, blocks: u32) -> Res
     Ok(())
 }
 
-/// The blocks of an event that come within the limit of time. After a halt, which is for want of memory, nothing has changed.
+/// The blocks of an event that come within the limit of time. After a halt, which is as memory ran out, nothing has changed.
 pub(crate) fn pass_blocks<H: Hash32 + Drop>(
     trail: &Trail<H>,
     board: &mut Board,

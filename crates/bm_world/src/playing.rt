@@ -4,55 +4,55 @@ ghost use Rattle.std.specs.Prelude.{◌≡◌, IfOk, IfErr, OnErr};
 ghost use Rattle.spec_run.specs.Conditions.{IsEvent};
 ghost use Rattle.spec_run.specs.Event as run;
 ghost use Rattle.spec_run.specs.Values as values;
-ghost use Rattle.bm_world_board.specs.Drafts.{setup_of, world_of, Drafts, Signs};
+ghost use Rattle.bm_world_board.specs.Prepares.{setup_of, world_of, Prepares, Signs};
 ghost use Rattle.bm_world.specs.Playing.{IsPlayable, IsCompiledAfter, Passes, SameBoard, GoesOn, Tests, Halts};
 
-use crate::drafting::draft;
 use crate::evidence::trail_halt;
 use crate::halt::Halt;
 use crate::passing::{pass_blocks, passing};
 use crate::placing::place;
+use crate::preparing::pending;
 use bm_compile::Compiled;
 use bm_hash::{Hash32, Trail};
-use bm_world_board::{Board, Drafted};
-use bm_world_settle::{first_guessed, settle};
+use bm_world_apply::{apply, first_guessed};
+use bm_world_board::{Board, PendingChange};
 use spec_data::{Boxed, Seq};
 use spec_run::{Event, Outcome, Record};
 use std::alloc::Global;
 
-// The draft of an event, and the contract that it compiles, where it does. The pairs that it signs are then in the book.
-fn draft_or_halt<H: Hash32 + Drop>(
+// The pending effect of an event, and the contract that it compiles, where it does. The pairs that it signs are then in the book.
+fn pending_or_halt<H: Hash32 + Drop>(
     alloc: Global,
     trail: &mut Trail<H>,
     board: &mut Board,
     event: &Event,
-) -> Result<(Boxed<Drafted>, Option<(u32, Boxed<Compiled>)>), Halt>
+) -> Result<(Boxed<PendingChange>, Option<(u32, Boxed<Compiled>)>), Halt>
     requires playable { IsPlayable (setup_of (H.digest_of trail.old.hasher) board.old) board.old trail.old.messages }
     requires is { IsEvent (setup_of (H.digest_of trail.old.hasher) board.old) event.now }
     ensures hasher { trail.new.hasher ≡ trail.old.hasher }
     ensures board { Signs board.old board.new }
-    ensures ok { IfOk result (λ p. Drafts (H.digest_of trail.old.hasher) (world_of board.new trail.old.messages) trail.old.messages
-        trail.new.messages (run.draft (setup_of (H.digest_of trail.old.hasher) board.old) (world_of board.old trail.old.messages) event.now)
+    ensures ok { IfOk result (λ p. Prepares (H.digest_of trail.old.hasher) (world_of board.new trail.old.messages) trail.old.messages
+        trail.new.messages (run.pending (setup_of (H.digest_of trail.old.hasher) board.old) (world_of board.old trail.old.messages) event.now)
         p.0) }
     ensures compiled { IfOk result (λ p. IsCompiledAfter (setup_of (H.digest_of trail.old.hasher) board.old)
         (world_of board.old trail.old.messages) board.old.compiled event.now p.1) }
     ensures halts { IfErr result (Halts (setup_of (H.digest_of trail.old.hasher) board.old) (world_of board.old trail.old.messages)
         trail.new.messages event.now) }
 {
-    match draft(alloc, trail, board, event) {
+    match pending(alloc, trail, board, event) {
         Ok(answer) => Ok(answer),
         Err(error) => Err(trail_halt(alloc, trail, error)),
     }
 }
 
-// The draft of an event that goes on, and the contract that it compiles, where it does. Whether it goes on or halts, the pairs that
+// The pending effect of an event that goes on, and the contract that it compiles, where it does. Whether it goes on or halts, the pairs that
 // it signs are then in the book.
-fn draft_passing<H: Hash32 + Drop>(
+fn pending_passing<H: Hash32 + Drop>(
     alloc: Global,
     trail: &mut Trail<H>,
     board: &mut Board,
     event: &Event,
-) -> Result<(Boxed<Drafted>, Option<(u32, Boxed<Compiled>)>), Halt>
+) -> Result<(Boxed<PendingChange>, Option<(u32, Boxed<Compiled>)>), Halt>
     requires playable { IsPlayable (setup_of (H.digest_of trail.old.hasher) board.old) board.old trail.old.messages }
     requires is { IsEvent (setup_of (H.digest_of trail.old.hasher) board.old) event.now }
     ensures hasher { trail.new.hasher ≡ trail.old.hasher }
@@ -62,7 +62,7 @@ fn draft_passing<H: Hash32 + Drop>(
     ensures halts { IfErr result (Halts (setup_of (H.digest_of trail.old.hasher) board.old) (world_of board.old trail.old.messages)
         trail.new.messages event.now) }
 {
-    let answer = draft_or_halt(alloc, trail, board, event)?;
+    let answer = pending_or_halt(alloc, trail, board, event)?;
     let guessed = first_guessed(
         alloc,
         board.header.secrets.as_slice(),
@@ -99,17 +99,17 @@ fn attempt<H: Hash32 + Drop>(
     ensures signs { OnErr result (Signs board.old board.new) }
     ensures records { OnErr result (trace.new ≡ trace.old) }
 {
-    let answer = draft_passing(alloc, trail, board, event)?;
-    let (drafted, entry) = answer;
-    let outcome = settle(alloc, board, trace, event, drafted)?;
+    let answer = pending_passing(alloc, trail, board, event)?;
+    let (pending_change, entry) = answer;
+    let outcome = apply(alloc, board, trace, event, pending_change)?;
     place(alloc, &mut board.compiled, entry);
     Ok(outcome)
 }
 
-// One event that is drafted. After a halt only the trail is changed. It stands apart, so that the room that it needs isn't blanked where
+// One event that is prepared. After a halt only the trail is changed. It stands apart, so that the room that it needs isn't blanked where
 // only time passes.
 #[inline(never)]
-fn play_drafted<H: Hash32 + Drop>(
+fn play_pending_change<H: Hash32 + Drop>(
     alloc: Global,
     trail: &mut Trail<H>,
     board: &mut Board,
@@ -158,7 +158,7 @@ pub(crate) fn play<H: Hash32 + Drop>(
 {
     match passing(board, event) {
         Some(blocks) => pass_blocks(trail, board, trace, event, blocks),
-        None => play_drafted(alloc, trail, board, trace, event),
+        None => play_pending_change(alloc, trail, board, trace, event),
     }
 }
 
@@ -189,7 +189,7 @@ fn try_event<H: Hash32 + Drop>(
     ensures halts { IfErr result (Halts (setup_of (H.digest_of trail.old.hasher) board.old) (world_of board.old trail.old.messages)
         trail.new.messages event.now) }
 {
-    let answer = draft_passing(alloc, trail, board, event)?;
+    let answer = pending_passing(alloc, trail, board, event)?;
     Ok(!is_refused(&answer.0.value().outcome))
 }
 

@@ -10,7 +10,7 @@ ghost use Rattle.bm_compile.specs.Numbered.{numbered};
 ghost use Rattle.bm_world.specs.Playing.{most_records, setup_in, IsWorld, Went, Stopped, Tested, Judged, StoppedJudging};
 ghost use Rattle.bm_world.specs.Reached.{IsReached};
 ghost use Rattle.bm_world.specs.Standing.{node_in};
-ghost use Rattle.bm_world_board.specs.Drafts.{setup_of, world_of};
+ghost use Rattle.bm_world_board.specs.Prepares.{setup_of, world_of};
 ghost use Rattle.bm_world_opening.specs.Opening.{setup_with};
 ghost use Rattle.bm_world.specs.Starting.{Opens, Unopened};
 
@@ -53,7 +53,7 @@ impl<H: Hash32> Model for World<H> {
 
     ghost coded = { Prim.hlevel (codes, coded_choice) };
 
-    ghost use Rattle.bm_world_board.specs.Drafts.{setup_of, world_of};
+    ghost use Rattle.bm_world_board.specs.Prepares.{setup_of, world_of};
 
     ghost view = { λ w. record {
       hasher = w.trail.hasher;
@@ -219,7 +219,7 @@ impl<H: Hash32 + Drop> World<H> {
     }
 
     /// One event: what came of it, which is then recorded, or what halted the run. After a halt nothing but the trail has changed,
-    /// and every later call answers the same, or want of memory where there is none for a copy of the colliding messages.
+    /// and every later call answers the same, or out of memory where there is none for a copy of the colliding messages.
     pub fn event(&mut self, event: &Event) -> Result<Outcome, Halt>
         requires is { IsEvent (setup_in H.digest_of self.old) event.now }
         requires few { length self.old.trace < most_records }

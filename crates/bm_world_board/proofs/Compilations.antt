@@ -19,7 +19,8 @@ where_there (Some advert) compiled = compiled
 abbrev numbered_at : Setup → World → ℕ → Option Numbered
 numbered_at s w j = option_map (numbered s.hash) (compiled_instance s w j)
 
-at_from : (s : Setup) (w : World) (k i : ℕ) (adverts : List Advert) → compiled_at (compiled_from s w k adverts) i ≡ where_there (slice_get adverts i) (numbered_at s w (k + i))
+at_from : (s : Setup) (w : World) (k i : ℕ) (adverts : List Advert) → compiled_at (compiled_from s w k adverts) i
+    ≡ where_there (slice_get adverts i) (numbered_at s w (k + i))
 at_from s w k i [] = refl
 at_from s w k zero (a ∷ adverts) = let z : k ≡ k + 0 = omega arith in ap (numbered_at s w) z
 at_from s w k (suc i) (a ∷ adverts) =

@@ -1,4 +1,4 @@
-pub mod Drafts
+pub mod Prepares
 pub mod Reaching
 pub mod Accounts
 pub mod Secrets

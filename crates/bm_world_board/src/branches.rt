@@ -3,7 +3,7 @@
 ghost use Rattle.std.specs.Prelude.{◌≡◌, ℕ, List, option_map};
 ghost use Rattle.spec_run.specs.Ledger.{position_branch};
 ghost use Rattle.bm_syntax.specs.View.{guarded};
-ghost use Rattle.bm_world_board.specs.Drafts.{setup_of};
+ghost use Rattle.bm_world_board.specs.Prepares.{setup_of};
 
 use crate::board::Board;
 use bm_syntax::{Guarded, branch_at};

@@ -1,13 +1,14 @@
-//! What a run's parties see, what an event is to come to there, and transactions that reach the ledger.
+//! The state of a run except for its list of hashed messages: accounts, contracts, signatures, ledger. Here every
+//! transaction reaches the ledger.
 #![tactic(auto)]
 
 mod accounts;
 mod board;
 mod branches;
-mod drafted;
+mod pending_change;
 mod reaching;
 
 pub use accounts::{Account, account_at, accounts_of, owner_of_script};
 pub use board::{Board, is_name_among};
-pub use drafted::{Appending, Change, Drafted, Promising, Purpose};
+pub use pending_change::{Appending, Change, PendingChange, Promising, Purpose};
 pub use reaching::{reach, spent_numbers};

@@ -7,11 +7,11 @@ ghost use Rattle.bm_hash.specs.Trails.{Hashes, StopsAlong};
 ghost use Rattle.spec_bitcoin.specs.Verdict as spec;
 ghost use Rattle.spec_run.specs.Ledger as run;
 ghost use Rattle.spec_run.specs.declared.outcome.Outcome.TheVariants as outcomes;
-ghost use Rattle.bm_world_board.specs.Drafts.{setup_of, world_of, Drafts};
-ghost use Rattle.bm_world_board.specs.Reaching.{IsAcceptedDraft, IsReadyIf, IsPurpose, IsFresh, reaches_in};
+ghost use Rattle.bm_world_board.specs.Prepares.{setup_of, world_of, Prepares};
+ghost use Rattle.bm_world_board.specs.Reaching.{IsAcceptedPending, IsReadyIf, IsPurpose, IsFresh, reaches_in};
 
 use crate::board::Board;
-use crate::drafted::{Appending, Change, Drafted, Purpose};
+use crate::pending_change::{Appending, Change, PendingChange, Purpose};
 use bm_hash::{Hash32, Trail, TrailError, hash_all};
 use bm_ledger::Ledger;
 use spec_bitcoin::{Tx, TxIn, TxOut};
@@ -88,18 +88,18 @@ fn accepted(
     })
 }
 
-// The draft of a transaction that the ledger accepts, whose strings are hashed.
-fn draft_accepted(
+// The pending effect of a transaction that the ledger accepts, whose strings are hashed.
+fn pending_accepted(
     alloc: Global,
     board: &Board,
     tx: Tx,
     txid: [u8; 32],
     purpose: Purpose,
     posts: Seq<Bytes>,
-) -> Result<Drafted, OutOfMemory>
+) -> Result<PendingChange, OutOfMemory>
     requires room { length board.now.coins.outputs + length tx.outputs < 2 ^ 32 }
     requires posts { posts ≡ run.items_of tx }
-    ensures draft { IfOk result (λ d. (hash : List ℕ → List ℕ) (messages : List (List ℕ)) → IsAcceptedDraft hash (setup_of hash board.now) (world_of board.now messages) tx txid purpose d) }
+    ensures pending { IfOk result (λ d. (hash : List ℕ → List ℕ) (messages : List (List ℕ)) → IsAcceptedPending hash (setup_of hash board.now) (world_of board.now messages) tx txid purpose d) }
     ensures ready { IfOk result (λ d. (hash : List ℕ → List ℕ) (messages : List (List ℕ)) → IsReadyIf hash (world_of board.now messages) tx txid d.change) }
 {
     let spent = spent_numbers(alloc, board.coins.ledger(), tx.inputs.as_slice())?;
@@ -111,7 +111,7 @@ fn draft_accepted(
         spent,
         purpose,
     };
-    Ok(Drafted {
+    Ok(PendingChange {
         outcome,
         posts,
         allowed: None,
@@ -119,7 +119,7 @@ fn draft_accepted(
     })
 }
 
-// The draft of a transaction that the ledger accepts; its items are hashed.
+// The pending effect of a transaction that the ledger accepts; its items are hashed.
 #[tactic(auto, using(bm_hash::proofs::HashesLemmas::stops_early, bm_hash::proofs::HashesLemmas::stops_late))]
 fn accept<H: Hash32 + Drop>(
     alloc: Global,
@@ -128,40 +128,40 @@ fn accept<H: Hash32 + Drop>(
     tx: Tx,
     txid: [u8; 32],
     purpose: Purpose,
-) -> Result<Drafted, TrailError>
+) -> Result<PendingChange, TrailError>
     requires clear { evidence_of (H.digest_of trail.old.hasher) trail.old.messages ≡ None }
     requires room { length board.now.coins.outputs + length tx.outputs < 2 ^ 32 }
-    ensures draft { IfOk result (λ d. (hash : List ℕ → List ℕ) (messages : List (List ℕ)) → IsAcceptedDraft hash (setup_of hash board.now) (world_of board.now messages) tx txid purpose d) }
+    ensures pending { IfOk result (λ d. (hash : List ℕ → List ℕ) (messages : List (List ℕ)) → IsAcceptedPending hash (setup_of hash board.now) (world_of board.now messages) tx txid purpose d) }
     ensures ready { IfOk result (λ d. (hash : List ℕ → List ℕ) (messages : List (List ℕ)) → IsReadyIf hash (world_of board.now messages) tx txid d.change) }
     ensures trail { Hashes H.digest_of trail.old trail.new (run.items_of tx) result }
 {
     let posts = items_of(alloc, tx.inputs.as_slice())?;
     hash_all(trail, posts.as_slice())?;
-    let drafted = draft_accepted(alloc, board, tx, txid, purpose, posts)?;
-    Ok(drafted)
+    let pending_change = pending_accepted(alloc, board, tx, txid, purpose, posts)?;
+    Ok(pending_change)
 }
 
-/// The draft of a transaction that reaches the ledger, where this is what it is to the contracts.
+/// The pending effect of a transaction that reaches the ledger, where this is what it is to the contracts.
 pub fn reach<H: Hash32 + Drop>(
     alloc: Global,
     trail: &mut Trail<H>,
     board: &Board,
     tx: Tx,
     purpose: Purpose,
-) -> Result<Drafted, TrailError>
+) -> Result<PendingChange, TrailError>
     requires few { length tx.inputs < 2 ^ 32 }
     requires room { length board.now.coins.outputs + length tx.outputs < 2 ^ 32 }
     requires clear { evidence_of (H.digest_of trail.old.hasher) trail.old.messages ≡ None }
     requires fresh { IsFresh (setup_of (H.digest_of trail.old.hasher) board.now) (world_of board.now trail.old.messages) tx }
     requires purpose { IsPurpose (setup_of (H.digest_of trail.old.hasher) board.now) (world_of board.now trail.old.messages) tx purpose }
     ensures hasher { trail.new.hasher ≡ trail.old.hasher }
-    ensures ok { IfOk result (Drafts (H.digest_of trail.old.hasher) (world_of board.now trail.old.messages) trail.old.messages trail.new.messages (reaches_in (setup_of (H.digest_of trail.old.hasher) board.now) (world_of board.now trail.old.messages) tx)) }
+    ensures ok { IfOk result (Prepares (H.digest_of trail.old.hasher) (world_of board.now trail.old.messages) trail.old.messages trail.new.messages (reaches_in (setup_of (H.digest_of trail.old.hasher) board.now) (world_of board.now trail.old.messages) tx)) }
     ensures err { IfErr result (StopsAlong H.digest_of trail.old trail.new ((reaches_in (setup_of (H.digest_of trail.old.hasher) board.now) (world_of board.now trail.old.messages) tx).hashes)) }
 {
     let judged = board.coins.examine(trail, &board.book, &tx)?;
     if let Some(refusal) = judged.refusal {
-        return Ok(Drafted::refused(alloc, Reason::Ledger(refusal)));
+        return Ok(PendingChange::refused(alloc, Reason::Ledger(refusal)));
     }
-    let drafted = accept(alloc, trail, board, tx, judged.txid, purpose)?;
-    Ok(drafted)
+    let pending_change = accept(alloc, trail, board, tx, judged.txid, purpose)?;
+    Ok(pending_change)
 }

@@ -12,18 +12,28 @@ use Rattle.theory_world.proofs.Ledger.AfterTransaction.{spend_then}
 -- ---- made
 
 made_push : (held : ℕ → Option ContractPosition) (id : List ℕ) (k : ℕ) (os : List TxOut) (o : TxOut)
-    → made_from held id k (os ++ o ∷ []) ≡ made_from held id k os ++ record { outpoint = record { txid = id; vout = k + length os }; value = o.value; script = o.script; live = true; holds = held (k + length os) } ∷ []
+    → made_from held id k (os ++ o ∷ []) ≡ made_from held id k os
+    ++ record { outpoint = record { txid = id; vout = k + length os }; value = o.value; script = o.script; live = true; holds = held (k + length os) } ∷ []
 made_push held id k [] o =
     let e : k ≡ k + 0 = omega arith in
-    ap {B = List Output} (λ (j : ℕ). record { outpoint = record { txid = id; vout = j }; value = o.value; script = o.script; live = true; holds = held j } ∷ []) e
+    ap {B = List Output} (λ (j : ℕ). record {
+      outpoint = record { txid = id; vout = j };
+      value = o.value;
+      script = o.script;
+      live = true;
+      holds = held j;
+    } ∷ []) e
 made_push held id k (x ∷ xs) o =
     let e : k + 1 + length xs ≡ k + suc (length xs) = omega arith in
     ap (λ l. record { outpoint = record { txid = id; vout = k }; value = x.value; script = x.script; live = true; holds = held k } ∷ l)
-    (made_push held id (k + 1) xs o ∙ ap (λ (j : ℕ). made_from held id (k + 1) xs ++ record { outpoint = record { txid = id; vout = j }; value = o.value; script = o.script; live = true; holds = held j } ∷ []) e)
+    (made_push held id (k + 1) xs o ∙ ap (λ (j : ℕ). made_from held id (k + 1) xs
+    ++ record { outpoint = record { txid = id; vout = j }; value = o.value; script = o.script; live = true; holds = held j } ∷ []) e)
 
 -- the outputs so far and the next
-pub made_more : (held : ℕ → Option ContractPosition) (id : List ℕ) (old now next : List Output) (os : List TxOut) (i : ℕ) (o : TxOut) → now ≡ old ++ made_from held id 0 (take i os) → i < length os → o ≡ get_or os i o
-    → next ≡ now ++ record { outpoint = record { txid = id; vout = i }; value = o.value; script = o.script; live = true; holds = held i } ∷ [] → next ≡ old ++ made_from held id 0 (take (i + 1) os)
+pub made_more : (held : ℕ → Option ContractPosition) (id : List ℕ) (old now next : List Output) (os : List TxOut) (i : ℕ) (o : TxOut) → now
+    ≡ old ++ made_from held id 0 (take i os) → i < length os → o ≡ get_or os i o
+    → next ≡ now ++ record { outpoint = record { txid = id; vout = i }; value = o.value; script = o.script; live = true; holds = held i }
+    ∷ [] → next ≡ old ++ made_from held id 0 (take (i + 1) os)
 made_more held id old now next os i o is lt at e =
     let n = length-take-le i os (omega arith) in
     let start : 0 + length (take i os) ≡ i = omega arith in
@@ -41,7 +51,8 @@ spend_before : (j k : ℕ) (os : List Output) → j < k → spend_from k (j ∷ 
 spend_before j k os h = spend-before j k [] os h ∙ spend-none k os
 
 -- the output of a number that is there
-pub spent_there : (k n : ℕ) (os : List Output) (d : Output) → n < length os → spend_from k ((n + k) ∷ []) os ≡ set os n (record (get_or os n d) { live = false })
+pub spent_there : (k n : ℕ) (os : List Output) (d : Output) → n < length os → spend_from k ((n + k) ∷ []) os
+    ≡ set os n (record (get_or os n d) { live = false })
 spent_there k n [] d h = absurd (omega arith)
 spent_there k zero (o ∷ os) d h =
     let z : 0 + k ≡ k = omega arith in
@@ -64,14 +75,18 @@ spent_past k m (o ∷ os) h =
 
 spend-append : (k : ℕ) (ms ns : List ℕ) (os : List Output) → spend_from k ns (spend_from k ms os) ≡ spend_from k (ms ++ ns) os
 spend-append k [] ns os = ap (spend_from k ns) (spend-none k os)
-spend-append k (m ∷ ms) ns os = ap (spend_from k ns) (sym (spend_then m k ms os)) ∙ spend-append k ms ns (spend_from k (m ∷ []) os) ∙ spend_then m k (ms ++ ns) os
+spend-append k (m ∷ ms) ns os =
+    ap (spend_from k ns) (sym (spend_then m k ms os)) ∙ spend-append k ms ns (spend_from k (m ∷ []) os) ∙ spend_then m k (ms ++ ns) os
 
 -- the numbers so far and the next
-pub spend_more : (old now next : List Output) (ns : List ℕ) (i n : ℕ) → now ≡ spend_from 0 (take i ns) old → i < length ns → n ≡ get_or ns i n → next ≡ spend_from 0 (n ∷ []) now → next ≡ spend_from 0 (take (i + 1) ns) old
+pub spend_more : (old now next : List Output) (ns : List ℕ) (i n : ℕ) → now ≡ spend_from 0 (take i ns) old → i < length ns → n
+    ≡ get_or ns i n → next ≡ spend_from 0 (n ∷ []) now → next ≡ spend_from 0 (take (i + 1) ns) old
 spend_more old now next ns i n is lt at e =
-    e ∙ ap (spend_from 0 (n ∷ [])) is ∙ spend-append 0 (take i ns) (n ∷ []) old ∙ ap (λ l. spend_from 0 l old) (sym (take_more ns i n lt ∙ ap (λ x. take i ns ++ x ∷ []) (sym at)))
+    e ∙ ap (spend_from 0 (n ∷ [])) is ∙ spend-append 0 (take i ns) (n ∷ []) old
+    ∙ ap (λ l. spend_from 0 l old) (sym (take_more ns i n lt ∙ ap (λ x. take i ns ++ x ∷ []) (sym at)))
 
-pub spent_at : (n : ℕ) (os : List Output) (was now : Output) → n < length os → was ≡ get_or os n was → now ≡ record was { live = false } → set os n now ≡ spend_from 0 (n ∷ []) os
+pub spent_at : (n : ℕ) (os : List Output) (was now : Output) → n < length os → was ≡ get_or os n was → now ≡ record was { live = false }
+    → set os n now ≡ spend_from 0 (n ∷ []) os
 spent_at n os was now lt at e =
     let z : n + 0 ≡ n = omega arith in
     ap (set os n) (e ∙ ap (λ (o : Output). record o { live = false }) at) ∙ sym (rw z at (spent_there 0 n os was lt))

@@ -36,7 +36,8 @@ spend-append-outputs : (k : ℕ) (ns : List ℕ) (xs ys : List Output) → spend
 spend-append-outputs k ns [] ys = let e : k ≡ k + 0 = omega arith in ap (λ j. spend_from j ns ys) e
 spend-append-outputs k ns (x ∷ xs) ys =
     let e : k + 1 + length xs ≡ k + suc (length xs) = omega arith in
-    ap (λ l. (if has_number k ns then record x { live = false } else x) ∷ l) (spend-append-outputs (k + 1) ns xs ys ∙ ap (λ j. spend_from (k + 1) ns xs ++ spend_from j ns ys) e)
+    ap (λ l. (if has_number k ns then record x { live = false } else x) ∷ l)
+    (spend-append-outputs (k + 1) ns xs ys ∙ ap (λ j. spend_from (k + 1) ns xs ++ spend_from j ns ys) e)
 
 abbrev pub AllBelow : ℕ → List ℕ → Type 0
 AllBelow k [] = Unit {0}
@@ -59,7 +60,8 @@ within [] n x h = cc
 within (y ∷ ys) zero x h = omega arith
 within (y ∷ ys) (suc n) x h = let b = within ys n x h in omega (arith, b)
 
-below_found : (os : List Output) (is : List TxIn) → list_all (λ i. is_some (at_place (live_from 0 os) i.prev)) is ≡ true → AllBelow (length os) (map (spent_number (live_from 0 os)) is)
+below_found : (os : List Output) (is : List TxIn) → list_all (λ i. is_some (at_place (live_from 0 os) i.prev)) is ≡ true
+    → AllBelow (length os) (map (spent_number (live_from 0 os)) is)
 below_found os [] h = tt
 below_found os (i ∷ is) h =
     let parts = and_parts (is_some (at_place (live_from 0 os) i.prev)) (list_all (λ j. is_some (at_place (live_from 0 os) j.prev)) is) h in
@@ -89,9 +91,11 @@ pub record IsAppended (old : Coined) (ledger : Chain) (next : List Output) (spen
   pub synced : ledger ≡ chain (record { tip = ledger.tip; outputs = next })
   pub tip : ledger.tip ≡ old.tip
 
-pub append_leaves : (old : Coined) (before ledger : Chain) (mid next : List Output) (spent : List ℕ) (id : List ℕ) (held : ℕ → Option ContractPosition) (tx : Tx)
+pub append_leaves : (old : Coined) (before ledger : Chain) (mid next : List Output) (spent : List ℕ) (id : List ℕ)
+    (held : ℕ → Option ContractPosition) (tx : Tx)
     → before ≡ chain old → first_reason (whole_row old.tip (live_from 0 old.outputs) tx) ≡ None → spent ≡ map (spent_number (live_from 0 old.outputs)) tx.inputs
-    → mid ≡ old.outputs ++ made_from held id 0 tx.outputs → ledger ≡ after_transaction before id tx → next ≡ spend_from 0 spent mid → IsAppended old ledger next spent id held tx
+    → mid ≡ old.outputs ++ made_from held id 0 tx.outputs → ledger ≡ after_transaction before id tx → next ≡ spend_from 0 spent mid
+    → IsAppended old ledger next spent id held tx
 append_leaves old before ledger mid next spent id held tx was passed numbers made after e =
     let outs : next ≡ spend_from 0 spent old.outputs ++ made_from held id 0 tx.outputs =
     e ∙ ap (spend_from 0 spent) made ∙ subst (λ ns. spend_from 0 ns (old.outputs ++ made_from held id 0 tx.outputs) ≡ spend_from 0 ns old.outputs ++ made_from held id 0 tx.outputs) (sym numbers) (spent_then_made old.tip old.outputs (made_from held id 0 tx.outputs) tx passed) in
@@ -110,7 +114,8 @@ opening_synced id os =
     let size = sym (length-made_from holds_nothing id 0 os) in
     λ j. record { tip = 0; births = size j; live = live j }
 
-pub opening_chained : (ledger : Chain) (made : List Output) (id : List ℕ) (os : List TxOut) → ledger ≡ opening_chain id os → made ≡ made_from holds_nothing id 0 os
+pub opening_chained : (ledger : Chain) (made : List Output) (id : List ℕ) (os : List TxOut) → ledger ≡ opening_chain id os → made
+    ≡ made_from holds_nothing id 0 os
     → ledger ≡ chain (record { tip = ledger.tip; outputs = made })
 opening_chained ledger made id os opened same =
     let tip : ledger.tip ≡ 0 = ap (λ (c : Chain). c.tip) opened in
@@ -118,7 +123,8 @@ opening_chained ledger made id os opened same =
 
 -- the first output of an opening has the opening's txid
 pub first_id : (live : List Entry) (id found : List ℕ) (vout : ℕ) (os : List TxOut) → live ≡ born 0 id 0 os
-    → option_map (λ (e : Entry). e.0) (numbered live 0) ≡ Some (record { txid = found; vout = vout }) → made_from holds_nothing found 0 os ≡ made_from holds_nothing id 0 os
+    → option_map (λ (e : Entry). e.0) (numbered live 0) ≡ Some (record { txid = found; vout = vout }) → made_from holds_nothing found 0 os
+    ≡ made_from holds_nothing id 0 os
 first_id live id found vout [] same is = refl
 first_id live id found vout (o ∷ os) same is =
     let first : Some (let p : OutPoint = record { txid = id; vout = 0 } in p) ≡ Some (record { txid = found; vout = vout }) =

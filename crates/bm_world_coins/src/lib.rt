@@ -1,4 +1,5 @@
-//! The ledger of a run, beside all outputs that were made by their birth number, with what contract outputs stand for.
+//! All outputs that a run has made, live or spent, by their numbers, with the contract positions that they hold, and
+//! the ledger over them.
 #![tactic(auto)]
 
 mod coins;

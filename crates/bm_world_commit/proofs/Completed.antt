@@ -33,7 +33,8 @@ last_one true = refl
 last_one false = refl
 
 -- who has committed then
-pub promised_last : (ps : List Promise) (p : Promise) (party : List ℕ) → list_any (is_promise_of p.contract party) (ps ++ p ∷ []) ≡ (list_any (is_promise_of p.contract party) ps || bytes_eq p.party party)
+pub promised_last : (ps : List Promise) (p : Promise) (party : List ℕ) → list_any (is_promise_of p.contract party) (ps ++ p ∷ [])
+    ≡ (list_any (is_promise_of p.contract party) ps || bytes_eq p.party party)
 promised_last ps p party =
     let e = eq-eqb p.contract p.contract refl in
     let one : list_any (is_promise_of p.contract party) (p ∷ []) ≡ bytes_eq p.party party = last_one (is_promise_of p.contract party p) ∙ ap (λ b. b && bytes_eq p.party party) e in
@@ -45,7 +46,8 @@ pub bound_each : (w : World) (bindings : List (List ℕ × ℕ)) → bound_outpo
 bound_each w [] = refl
 bound_each w (b ∷ bs) = ap (λ l. placed_at w.outputs b ∷ l) (bound_each w bs)
 
-placed_found : (os : List Output) (name : List ℕ) (bindings : List (List ℕ × ℕ)) → is_some (look_up name (map (placed_at os) bindings)) ≡ is_some (look_up name bindings)
+placed_found : (os : List Output) (name : List ℕ) (bindings : List (List ℕ × ℕ)) → is_some (look_up name (map (placed_at os) bindings))
+    ≡ is_some (look_up name bindings)
 placed_found os name [] = refl
 placed_found os name (b ∷ bs) = by_test (bytes_eq (b.0) name) (placed_found os name bs)
   where
@@ -75,7 +77,8 @@ module _ (s : Setup) (w : World) (k : ℕ) where
   pub none_complete : (a : Advert) → contract_at s k ≡ Some a → have_promised w k (participants a) ≡ false → compiled_instance s w k ≡ None
   none_complete a e more = ap (instance_if_complete w k) e ∙ ap (λ b. if b then Some (instance_of w k a) else None) (both_tests (is_advertised w k) _ more)
 
-  pub instance_by : (a : Advert) (bindings : List (List ℕ × ℕ)) (hashes : List (List ℕ × List ℕ)) → bindings ≡ bindings_at w.advertised k → hashes ≡ digests_at w.promises k
+  pub instance_by : (a : Advert) (bindings : List (List ℕ × ℕ)) (hashes : List (List ℕ × List ℕ)) → bindings ≡ bindings_at w.advertised k
+      → hashes ≡ digests_at w.promises k
       → instance_with k a (map (placed_at w.outputs) bindings) hashes ≡ instance_of w k a
   instance_by a bindings hashes eb eh =
       let places : map (placed_at w.outputs) bindings ≡ bound_outpoints w (bindings_at w.advertised k) = ap (map (placed_at w.outputs)) eb ∙ sym (bound_each w (bindings_at w.advertised k)) in

@@ -22,7 +22,8 @@ use Rattle.theory_run.proofs.Events.AfterAdvert.{places_same}
 
 module _ (s : Setup) (w next : World) where
   -- where they agree on every contract from number k on
-  pub same_from : (k : ℕ) (adverts : List Advert) → ((i : ℕ) → compiled_instance s next (i + k) ≡ compiled_instance s w (i + k)) → compiled_from s next k adverts ≡ compiled_from s w k adverts
+  pub same_from : (k : ℕ) (adverts : List Advert) → ((i : ℕ) → compiled_instance s next (i + k) ≡ compiled_instance s w (i + k))
+      → compiled_from s next k adverts ≡ compiled_from s w k adverts
   same_from k [] same = refl
   same_from k (a ∷ more) same =
       let tail = same_from (k + 1) more (λ i. let z : i + (k + 1) ≡ (i + 1) + k = omega arith in rw z (same (i + 1))) in
@@ -31,7 +32,8 @@ module _ (s : Setup) (w next : World) where
       λ i. option_map (numbered s.hash) (head i) ∷ tail i
 
   -- where they agree on every contract but m places after number k
-  pub but_one : (m k : ℕ) (adverts : List Advert) (st : Instance) → compiled_instance s next (m + k) ≡ Some st → ((j : ℕ) → ((m + k) == j) ≡ false → compiled_instance s next j ≡ compiled_instance s w j)
+  pub but_one : (m k : ℕ) (adverts : List Advert) (st : Instance) → compiled_instance s next (m + k) ≡ Some st
+      → ((j : ℕ) → ((m + k) == j) ≡ false → compiled_instance s next j ≡ compiled_instance s w j)
       → slice_set (compiled_from s w k adverts) m (Some (numbered s.hash st)) ≡ compiled_from s next k adverts
   but_one m k [] st h others = refl
   but_one zero k (a ∷ more) st h others =
@@ -97,7 +99,8 @@ module _ (s : Setup) (w : World) (p : Promise) where
       same none j false f = instance_apart j f
       same none j true t = let e : p.contract ≡ j = grind (arith, t) in subst (λ n. compiled_instance s next n ≡ compiled_instance s w n) e (none ∙ sym before)
 
-      by_instance : (o : Option Instance) → compiled_instance s next p.contract ≡ o → placed (entry_of s.hash p.contract o) (all_compiled s w) ≡ all_compiled s next
+      by_instance : (o : Option Instance) → compiled_instance s next p.contract ≡ o
+          → placed (entry_of s.hash p.contract o) (all_compiled s w) ≡ all_compiled s next
       by_instance None e = sym (same_from s w next 0 s.contracts (λ i. same e (i + 0) (p.contract == (i + 0)) refl))
       by_instance (Some st) e =
           let z : p.contract + 0 ≡ p.contract = omega arith in

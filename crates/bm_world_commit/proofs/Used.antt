@@ -34,4 +34,5 @@ module _ (used : List (List ℕ)) (ds : List (List ℕ × List ℕ)) where
       let more : take (k + 1) ds ≡ take k ds ++ d ∷ [] = take_more ds k d lt ∙ ap (λ z. take k ds ++ z ∷ []) (sym at) in
       let seen : used ++ seconds (take k ds) ++ d.1 ∷ [] ≡ used ++ seconds (take (k + 1) ds) =
       append_assoc used (seconds (take k ds)) (d.1 ∷ []) ∙ ap (λ l. used ++ l) (sym (ap seconds more ∙ seconds_push (take k ds) d)) in
-      ap (used_again (used ++ seconds (take k ds))) cut ∙ ap (λ l. if is_among (d.1) (used ++ seconds (take k ds)) then Some (d.0) else used_again l (drop (k + 1) ds)) seen
+      ap (used_again (used ++ seconds (take k ds))) cut
+      ∙ ap (λ l. if is_among (d.1) (used ++ seconds (take k ds)) then Some (d.0) else used_again l (drop (k + 1) ds)) seen

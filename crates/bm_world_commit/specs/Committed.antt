@@ -8,11 +8,11 @@ use Rattle.spec_run.specs.declared.header.HeldSecret.{HeldSecret}
 use Rattle.spec_run.specs.Setup.{Setup, held_among, bytes_or_none, pre_at}
 use Rattle.spec_run.specs.World.{Output, Promise, World, bindings_at, is_advertised}
 use Rattle.spec_run.specs.Compiled.{outpoint_of}
-use Rattle.spec_run.specs.Committing.{digest_row, with_promise, committed_draft}
-use Rattle.spec_run.specs.Draft.{Draft, unless}
-use Rattle.bm_world_board.specs.declared.drafted.Change.TheVariants.{Commit}
-use Rattle.bm_world_board.specs.declared.drafted.Promising.{Promising}
-use Rattle.bm_world_board.specs.Drafts.{changed}
+use Rattle.spec_run.specs.Committing.{digest_row, with_promise, committed_pending}
+use Rattle.spec_run.specs.Pending.{Pending, unless}
+use Rattle.bm_world_board.specs.declared.pending_change.Change.TheVariants.{Commit}
+use Rattle.bm_world_board.specs.declared.pending_change.Promising.{Promising}
+use Rattle.bm_world_board.specs.Prepares.{changed}
 
 -- ---- secrets that are held
 
@@ -33,11 +33,11 @@ promise_in p = record { contract = p.contract; party = p.party; digests = p.dige
 abbrev pub promised : World → Promising → World
 promised w p = changed w (Commit p)
 
--- what is left to draft once the digests are known, whose strings are then hashed
-abbrev pub later_draft : Setup → World → ℕ → List ℕ → List (List ℕ × List ℕ) → Draft
-later_draft s w contract party digests =
+-- what is left to pending effect once the digests are known, whose strings are then hashed
+abbrev pub later_pending : Setup → World → ℕ → List ℕ → List (List ℕ × List ℕ) → Pending
+later_pending s w contract party digests =
     unless (first_reason (digest_row s w contract party digests)) w []
-    (committed_draft s (with_promise s w contract party digests) contract party [])
+    (committed_pending s (with_promise s w contract party digests) contract party [])
 
 -- ---- bindings
 

@@ -4,11 +4,11 @@ ghost use Rattle.std.specs.Prelude.{◌≡◌, ℕ, List, None, IfOk, IfErr};
 ghost use Rattle.spec_data.specs.Lists.{first_reason};
 ghost use Rattle.bm_hash.specs.Messages.{evidence_of};
 ghost use Rattle.bm_hash.specs.Trails.{StopsAlong};
-ghost use Rattle.spec_run.specs.Committing.{secrets_at, commit_row, commit_draft};
+ghost use Rattle.spec_run.specs.Committing.{secrets_at, commit_row, commit_pending};
 ghost use Rattle.spec_run.specs.Committing as spec;
 ghost use Rattle.bm_match.specs.Matches.{all_compiled};
-ghost use Rattle.bm_world_board.specs.Drafts.{setup_of, world_of, Drafts};
-ghost use Rattle.bm_world_commit.specs.Committed.{IsBoundAt, later_draft};
+ghost use Rattle.bm_world_board.specs.Prepares.{setup_of, world_of, Prepares};
+ghost use Rattle.bm_world_commit.specs.Committed.{IsBoundAt, later_pending};
 ghost use Rattle.bm_world_board.specs.Compiling.{placed};
 
 use crate::compiling::compile_last;
@@ -17,14 +17,14 @@ use crate::refusals::commit_refusal;
 use crate::secrets::{committed_digests, secret_names};
 use bm_compile::Compiled;
 use bm_hash::{Hash32, Trail, TrailError};
-use bm_world_board::{Board, Change, Drafted, Promising};
+use bm_world_board::{Board, Change, PendingChange, Promising};
 use spec_data::{Name, OutOfMemory};
 use spec_run::Reason;
 use std::alloc::Global;
 
-// The draft once the digests are known, where it wasn't refused before.
+// The pending effect once the digests are known, where it wasn't refused before.
 #[tactic(auto, using(bm_hash::proofs::HashesLemmas::stops_early))]
-fn draft_committed<H: Hash32 + Drop>(
+fn pending_committed<H: Hash32 + Drop>(
     alloc: Global,
     trail: &mut Trail<H>,
     board: &Board,
@@ -33,7 +33,7 @@ fn draft_committed<H: Hash32 + Drop>(
     digests: &[(Name, [u8; 32])],
     committed: &[(Name, [u8; 32])],
     names: &[Name],
-) -> Result<(Drafted, Option<(u32, Compiled)>), TrailError>
+) -> Result<(PendingChange, Option<(u32, Compiled)>), TrailError>
     requires clear { evidence_of (H.digest_of trail.old.hasher) trail.old.messages ≡ None }
     requires bound { let s = setup_of (H.digest_of trail.old.hasher) board.now in
         (messages : List (List ℕ)) → IsBoundAt s (world_of board.now messages) contract }
@@ -46,19 +46,22 @@ fn draft_committed<H: Hash32 + Drop>(
     ensures ok { (messages : List (List ℕ)) →
         let s = setup_of (H.digest_of trail.old.hasher) board.now in
         let w = world_of board.now messages in
-        IfOk result (λ p. Drafts s.hash w trail.old.messages trail.new.messages (later_draft s w contract party.now digests.now) p.0) }
+        IfOk result (λ p. Prepares s.hash w trail.old.messages trail.new.messages (later_pending s w contract party.now digests.now) p.0) }
     ensures compiled { (messages : List (List ℕ)) →
         let s = setup_of (H.digest_of trail.old.hasher) board.now in
         let w = world_of board.now messages in
         board.now.compiled ≡ all_compiled s w
-        → IfOk result (λ p. placed p.1 board.now.compiled ≡ all_compiled s (later_draft s w contract party.now digests.now).world) }
+        → IfOk result (λ p. placed p.1 board.now.compiled ≡ all_compiled s (later_pending s w contract party.now digests.now).world) }
     ensures err { (messages : List (List ℕ)) →
         let s = setup_of (H.digest_of trail.old.hasher) board.now in
         let w = world_of board.now messages in
-        IfErr result (StopsAlong H.digest_of trail.old trail.new ((later_draft s w contract party.now digests.now).hashes)) }
+        IfErr result (StopsAlong H.digest_of trail.old trail.new ((later_pending s w contract party.now digests.now).hashes)) }
 {
     if let Some(name) = repeated_digest(&board.exchange, committed) {
-        return Ok((Drafted::refused(alloc, Reason::HashRepeated(name)), None));
+        return Ok((
+            PendingChange::refused(alloc, Reason::HashRepeated(name)),
+            None,
+        ));
     }
     let promising = Promising {
         contract,
@@ -66,38 +69,41 @@ fn draft_committed<H: Hash32 + Drop>(
         digests: arranged(alloc, names, committed)?,
     };
     let compiled = compile_last(alloc, trail, board, &promising)?;
-    Ok((Drafted::done(alloc, Change::Commit(promising)), compiled))
+    Ok((
+        PendingChange::done(alloc, Change::Commit(promising)),
+        compiled,
+    ))
 }
 
-/// The draft of `commit`, and the contract that it compiles, where it is the last commitment to it. The board has what it is
+/// The pending effect of `commit`, and the contract that it compiles, where it is the last commitment to it. The board has what it is
 /// compiled to only once it is placed there.
 #[tactic(auto, using(bm_hash::proofs::HashesLemmas::stops_early))]
-pub fn draft_commit<H: Hash32 + Drop>(
+pub fn pending_commit<H: Hash32 + Drop>(
     alloc: Global,
     trail: &mut Trail<H>,
     board: &Board,
     contract: u32,
     party: &Name,
     digests: &[(Name, [u8; 32])],
-) -> Result<(Drafted, Option<(u32, Compiled)>), TrailError>
+) -> Result<(PendingChange, Option<(u32, Compiled)>), TrailError>
     requires clear { evidence_of (H.digest_of trail.old.hasher) trail.old.messages ≡ None }
     requires bound { IsBoundAt (setup_of (H.digest_of trail.old.hasher) board.now) (world_of board.now trail.old.messages) contract }
     requires compiled { let s = setup_of (H.digest_of trail.old.hasher) board.now in
         board.now.compiled ≡ all_compiled s (world_of board.now trail.old.messages) }
     ensures hasher { trail.new.hasher ≡ trail.old.hasher }
     ensures ok { let s = setup_of (H.digest_of trail.old.hasher) board.now in let w = world_of board.now trail.old.messages in
-        IfOk result (λ p. Drafts s.hash w trail.old.messages trail.new.messages (commit_draft s w contract party.now digests.now) p.0) }
+        IfOk result (λ p. Prepares s.hash w trail.old.messages trail.new.messages (commit_pending s w contract party.now digests.now) p.0) }
     ensures compiled { let s = setup_of (H.digest_of trail.old.hasher) board.now in let w = world_of board.now trail.old.messages in
-        IfOk result (λ p. placed p.1 board.now.compiled ≡ all_compiled s (commit_draft s w contract party.now digests.now).world) }
+        IfOk result (λ p. placed p.1 board.now.compiled ≡ all_compiled s (commit_pending s w contract party.now digests.now).world) }
     ensures err { let s = setup_of (H.digest_of trail.old.hasher) board.now in let w = world_of board.now trail.old.messages in
-        IfErr result (StopsAlong H.digest_of trail.old trail.new ((commit_draft s w contract party.now digests.now).hashes)) }
+        IfErr result (StopsAlong H.digest_of trail.old trail.new ((commit_pending s w contract party.now digests.now).hashes)) }
 {
     let names = secret_names(alloc, board, contract, party)?;
     if let Some(reason) = commit_refusal(board, contract, party, digests, names.as_slice()) {
-        return Ok((Drafted::refused(alloc, reason), None));
+        return Ok((PendingChange::refused(alloc, reason), None));
     }
     let committed = committed_digests(alloc, trail, board, party, digests, names.as_slice())?;
-    let drafted = draft_committed(
+    let pending_change = pending_committed(
         alloc,
         trail,
         board,
@@ -107,5 +113,5 @@ pub fn draft_commit<H: Hash32 + Drop>(
         committed.as_slice(),
         names.as_slice(),
     )?;
-    Ok(drafted)
+    Ok(pending_change)
 }

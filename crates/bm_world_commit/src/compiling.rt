@@ -11,7 +11,7 @@ ghost use Rattle.spec_run.specs.World.{is_promise_of, digests_at};
 ghost use Rattle.spec_run.specs.Compiled.{outpoint_of, compiled_instance};
 ghost use Rattle.spec_run.specs.Committing.{strings_compiled};
 ghost use Rattle.bm_compile.specs.Numbered.{instance_with, numbered};
-ghost use Rattle.bm_world_board.specs.Drafts.{setup_of, world_of};
+ghost use Rattle.bm_world_board.specs.Prepares.{setup_of, world_of};
 ghost use Rattle.bm_world_commit.specs.Committed.{promise_in, promised, placed_at, are_made, IsBoundAt};
 ghost use Rattle.bm_world_commit.specs.Entries.{entry_of};
 

@@ -27,11 +27,11 @@ fn is_named(digests: &[(Name, [u8; 32])], name: &Name) -> bool
 }
 
 // Whether each digest is of one of these names.
-fn are_all_wanted(digests: &[(Name, [u8; 32])], wanted: &[Name]) -> bool
-    ensures { result ≡ list_all (λ n. is_among n wanted.now) (names_of digests.now) }
+fn are_all_required(digests: &[(Name, [u8; 32])], required: &[Name]) -> bool
+    ensures { result ≡ list_all (λ n. is_among n required.now) (names_of digests.now) }
 {
     for digest in digests {
-        if !is_name_among(wanted, &digest.0) {
+        if !is_name_among(required, &digest.0) {
             return false;
         }
     }
@@ -39,10 +39,10 @@ fn are_all_wanted(digests: &[(Name, [u8; 32])], wanted: &[Name]) -> bool
 }
 
 // Whether each of these names has a digest.
-fn are_all_named(digests: &[(Name, [u8; 32])], wanted: &[Name]) -> bool
-    ensures { result ≡ list_all (λ n. is_among n (names_of digests.now)) wanted.now }
+fn are_all_named(digests: &[(Name, [u8; 32])], required: &[Name]) -> bool
+    ensures { result ≡ list_all (λ n. is_among n (names_of digests.now)) required.now }
 {
-    for name in wanted {
+    for name in required {
         if !is_named(digests, name) {
             return false;
         }
@@ -65,10 +65,12 @@ fn are_different(digests: &[(Name, [u8; 32])]) -> bool
 }
 
 /// Whether the digests are of these names, each once, in any order.
-pub(crate) fn are_rearranged(digests: &[(Name, [u8; 32])], wanted: &[Name]) -> bool
-    ensures { result ≡ spec.are_rearranged (names_of digests.now) wanted.now }
+pub(crate) fn are_rearranged(digests: &[(Name, [u8; 32])], required: &[Name]) -> bool
+    ensures { result ≡ spec.are_rearranged (names_of digests.now) required.now }
 {
-    are_all_wanted(digests, wanted) && are_different(digests) && are_all_named(digests, wanted)
+    are_all_required(digests, required)
+        && are_different(digests)
+        && are_all_named(digests, required)
 }
 
 // The digest of this name.
@@ -87,14 +89,14 @@ fn digest_of(digests: &[(Name, [u8; 32])], name: &Name) -> [u8; 32]
 /// The digests of these names, in their order.
 pub(crate) fn arranged(
     alloc: Global,
-    wanted: &[Name],
+    required: &[Name],
     digests: &[(Name, [u8; 32])],
 ) -> Result<Seq<(Name, [u8; 32])>, OutOfMemory>
-    requires { list_all (λ n. is_some (look_up n digests.now)) wanted.now ≡ true }
-    ensures { IfOk result (λ list. list ≡ spec.arranged [] wanted.now digests.now) }
+    requires { list_all (λ n. is_some (look_up n digests.now)) required.now ≡ true }
+    ensures { IfOk result (λ list. list ≡ spec.arranged [] required.now digests.now) }
 {
     let mut list = Seq::new(alloc);
-    for name in wanted {
+    for name in required {
         list.push((*name, digest_of(digests, name)))?;
     }
     Ok(list)

@@ -1,4 +1,4 @@
-//! What a commitment of secrets comes to, after the last of which the contract is compiled.
+//! The event `commit`. After the last party's commitment of a contract it has the contract compiled.
 #![tactic(auto)]
 
 mod committing;
@@ -7,4 +7,4 @@ mod digests;
 mod refusals;
 mod secrets;
 
-pub use committing::draft_commit;
+pub use committing::pending_commit;

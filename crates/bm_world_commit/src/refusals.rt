@@ -6,7 +6,7 @@ ghost use Rattle.spec_terms.specs.Precondition.{names_of, secrets_of};
 ghost use Rattle.spec_run.specs.Setup.{pre_of};
 ghost use Rattle.spec_run.specs.Advertising as told;
 ghost use Rattle.spec_run.specs.Committing as spec;
-ghost use Rattle.bm_world_board.specs.Drafts.{setup_of, world_of};
+ghost use Rattle.bm_world_board.specs.Prepares.{setup_of, world_of};
 
 use crate::digests::are_rearranged;
 use crate::secrets::{badly_long, not_held};
@@ -15,36 +15,36 @@ use spec_data::Name;
 use spec_run::Reason;
 
 // Whether an honest party names no digest, and another one for each of its secrets.
-fn names_fit(board: &Board, party: &Name, digests: &[(Name, [u8; 32])], wanted: &[Name]) -> bool
-    ensures { let rearranged = told.are_rearranged (names_of digests.now) wanted.now in
+fn names_fit(board: &Board, party: &Name, digests: &[(Name, [u8; 32])], required: &[Name]) -> bool
+    ensures { let rearranged = told.are_rearranged (names_of digests.now) required.now in
         result ≡ (if is_among party.now board.now.header.honest then length digests.now == 0 else rearranged) }
 {
     if board.is_honest(party) {
         digests.is_empty()
     } else {
-        are_rearranged(digests, wanted)
+        are_rearranged(digests, required)
     }
 }
 
 // The first of an honest party's secrets that isn't held.
-fn missing_secret(board: &Board, party: &Name, wanted: &[Name]) -> Option<Name>
+fn missing_secret(board: &Board, party: &Name, required: &[Name]) -> Option<Name>
     ensures { (hash : List ℕ → List ℕ) → let s = setup_of hash board.now in
-        result ≡ (if is_among party.now board.now.header.honest then spec.not_held s party.now wanted.now else None) }
+        result ≡ (if is_among party.now board.now.header.honest then spec.not_held s party.now required.now else None) }
 {
     if board.is_honest(party) {
-        not_held(board, party, wanted)
+        not_held(board, party, required)
     } else {
         None
     }
 }
 
 // The first of an honest party's secrets that hasn't the size of one.
-fn bad_secret(board: &Board, party: &Name, wanted: &[Name]) -> Option<Name>
+fn bad_secret(board: &Board, party: &Name, required: &[Name]) -> Option<Name>
     ensures { (hash : List ℕ → List ℕ) → let s = setup_of hash board.now in
-        result ≡ (if is_among party.now board.now.header.honest then spec.badly_long s party.now wanted.now else None) }
+        result ≡ (if is_among party.now board.now.header.honest then spec.badly_long s party.now required.now else None) }
 {
     if board.is_honest(party) {
-        badly_long(board, party, wanted)
+        badly_long(board, party, required)
     } else {
         None
     }
@@ -56,9 +56,9 @@ pub(crate) fn commit_refusal(
     contract: u32,
     party: &Name,
     digests: &[(Name, [u8; 32])],
-    wanted: &[Name],
+    required: &[Name],
 ) -> Option<Reason>
-    requires { wanted.now ≡ secrets_of party.now (pre_of (slice_get board.now.contracts contract)) }
+    requires { required.now ≡ secrets_of party.now (pre_of (slice_get board.now.contracts contract)) }
     ensures { (hash : List ℕ → List ℕ) (messages : List (List ℕ)) → let s = setup_of hash board.now in
         result ≡ first_reason (spec.commit_row s (world_of board.now messages) contract party.now digests.now) }
 {
@@ -74,13 +74,13 @@ pub(crate) fn commit_refusal(
     if board.exchange.committed(contract, party) {
         return Some(Reason::AlreadyCommitted);
     }
-    if !names_fit(board, party, digests, wanted) {
+    if !names_fit(board, party, digests, required) {
         return Some(Reason::WrongNames);
     }
-    if let Some(name) = missing_secret(board, party, wanted) {
+    if let Some(name) = missing_secret(board, party, required) {
         return Some(Reason::NoSecret(name));
     }
-    if let Some(name) = bad_secret(board, party, wanted) {
+    if let Some(name) = bad_secret(board, party, required) {
         return Some(Reason::BadSecretLength(name));
     }
     None

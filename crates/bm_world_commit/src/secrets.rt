@@ -8,7 +8,7 @@ ghost use Rattle.bm_hash.specs.Messages.{evidence_of};
 ghost use Rattle.bm_hash.specs.Trails.{Hashes};
 ghost use Rattle.spec_run.specs.Setup.{pre_of, held_among, bytes_or_none};
 ghost use Rattle.spec_run.specs.Committing as spec;
-ghost use Rattle.bm_world_board.specs.Drafts.{setup_of};
+ghost use Rattle.bm_world_board.specs.Prepares.{setup_of};
 ghost use Rattle.bm_world_commit.specs.Committed.{own_string, own_digest};
 
 use bm_exchange::{held_secret, is_secret_long};
@@ -50,10 +50,10 @@ pub(crate) fn secret_names(
 }
 
 /// The first of the names whose secret doesn't stand in the header.
-pub(crate) fn not_held(board: &Board, party: &Name, wanted: &[Name]) -> Option<Name>
-    ensures { (hash : List ℕ → List ℕ) → result ≡ spec.not_held (setup_of hash board.now) party.now wanted.now }
+pub(crate) fn not_held(board: &Board, party: &Name, required: &[Name]) -> Option<Name>
+    ensures { (hash : List ℕ → List ℕ) → result ≡ spec.not_held (setup_of hash board.now) party.now required.now }
 {
-    for name in wanted {
+    for name in required {
         if held_secret(board.header.secrets.as_slice(), party, name).is_none() {
             return Some(*name);
         }
@@ -72,10 +72,10 @@ fn is_held_long(secrets: &[HeldSecret], party: &Name, name: &Name) -> bool
 }
 
 /// The first of the names whose secret hasn't the size of one.
-pub(crate) fn badly_long(board: &Board, party: &Name, wanted: &[Name]) -> Option<Name>
-    ensures { (hash : List ℕ → List ℕ) → result ≡ spec.badly_long (setup_of hash board.now) party.now wanted.now }
+pub(crate) fn badly_long(board: &Board, party: &Name, required: &[Name]) -> Option<Name>
+    ensures { (hash : List ℕ → List ℕ) → result ≡ spec.badly_long (setup_of hash board.now) party.now required.now }
 {
-    for name in wanted {
+    for name in required {
         if !is_held_long(board.header.secrets.as_slice(), party, name) {
             return Some(*name);
         }

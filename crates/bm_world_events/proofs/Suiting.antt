@@ -25,14 +25,14 @@ module _ (s : Setup) (accounts : List Account) (same : accounts ≡ map (account
   owner_there : (script : List ℕ) → owner_in accounts script ≡ owner_by s script
   owner_there script = ap (λ accs. owner_in accs script) same ∙ owner_is s s.header.parties script
 
-  suits_is : (wanted : Option Holding) (output : Option Output) → suits_if accounts wanted output ≡ suits s wanted output
+  suits_is : (required : Option Holding) (output : Option Output) → suits_if accounts required output ≡ suits s required output
   suits_is None output = refl
-  suits_is (Some wanted) None = refl
-  suits_is (Some wanted) (Some o) = by_deposit (is_deposit (Some o))
+  suits_is (Some required) None = refl
+  suits_is (Some required) (Some o) = by_deposit (is_deposit (Some o))
     where
-      by_deposit : (b : Bool) → (b && owner_eq (owner_in accounts o.script) (Party wanted.owner) && (o.value == wanted.value))
-          ≡ (b && owner_eq (if b then owner_by s o.script else Outside) (Party wanted.owner) && ((if b then o.value else 0) == wanted.value))
-      by_deposit true = ap (λ owner. owner_eq owner (Party wanted.owner) && (o.value == wanted.value)) (owner_there o.script)
+      by_deposit : (b : Bool) → (b && owner_eq (owner_in accounts o.script) (Party required.owner) && (o.value == required.value))
+          ≡ (b && owner_eq (if b then owner_by s o.script else Outside) (Party required.owner) && ((if b then o.value else 0) == required.value))
+      by_deposit true = ap (λ owner. owner_eq owner (Party required.owner) && (o.value == required.value)) (owner_there o.script)
       by_deposit false = refl
 
   pub unsuited_is : (w : World) (contract : ℕ) (entries : List Pre) (bindings : List (List ℕ × ℕ)) → entries ≡ pre_of (slice_get s.contracts contract)

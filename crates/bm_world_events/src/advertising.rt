@@ -14,11 +14,11 @@ ghost use Rattle.spec_calculus.specs.Same.{owner_eq};
 ghost use Rattle.spec_terms.specs.Precondition.{holding};
 ghost use Rattle.spec_run.specs.Advertising as spec;
 ghost use Rattle.bm_world_board.specs.Accounts.{account_of};
-ghost use Rattle.bm_world_board.specs.Drafts.{setup_of, world_of, Drafts};
+ghost use Rattle.bm_world_board.specs.Prepares.{setup_of, world_of, Prepares};
 ghost use Rattle.bm_world_events.specs.Advertising.{holding_by, suits_by, suits_if, unsuited_by};
 
 use bm_wellformed::Checked;
-use bm_world_board::{Account, Board, Change, Drafted, is_name_among, owner_of_script};
+use bm_world_board::{Account, Board, Change, PendingChange, is_name_among, owner_of_script};
 use bm_world_coins::MadeOutput;
 use spec_calculus::{Advertised, Owner};
 use spec_data::{Name, OutOfMemory, Seq};
@@ -64,11 +64,11 @@ fn is_bound(bindings: &[(Name, u32)], name: &Name) -> bool
 }
 
 // Whether each bound name is one of these.
-fn are_all_wanted(bindings: &[(Name, u32)], wanted: &[Name]) -> bool
-    ensures { result ≡ list_all (λ n. is_among n wanted.now) (pre.names_of bindings.now) }
+fn are_all_required(bindings: &[(Name, u32)], required: &[Name]) -> bool
+    ensures { result ≡ list_all (λ n. is_among n required.now) (pre.names_of bindings.now) }
 {
     for binding in bindings {
-        if !is_name_among(wanted, &binding.0) {
+        if !is_name_among(required, &binding.0) {
             return false;
         }
     }
@@ -76,10 +76,10 @@ fn are_all_wanted(bindings: &[(Name, u32)], wanted: &[Name]) -> bool
 }
 
 // Whether each of these names is bound.
-fn are_all_bound(bindings: &[(Name, u32)], wanted: &[Name]) -> bool
-    ensures { result ≡ list_all (λ n. is_among n (pre.names_of bindings.now)) wanted.now }
+fn are_all_bound(bindings: &[(Name, u32)], required: &[Name]) -> bool
+    ensures { result ≡ list_all (λ n. is_among n (pre.names_of bindings.now)) required.now }
 {
-    for name in wanted {
+    for name in required {
         if !is_bound(bindings, name) {
             return false;
         }
@@ -102,10 +102,12 @@ fn are_different(bindings: &[(Name, u32)]) -> bool
 }
 
 // Whether the bound names are these, each once, in any order.
-fn are_rearranged(bindings: &[(Name, u32)], wanted: &[Name]) -> bool
-    ensures { result ≡ spec.are_rearranged (pre.names_of bindings.now) wanted.now }
+fn are_rearranged(bindings: &[(Name, u32)], required: &[Name]) -> bool
+    ensures { result ≡ spec.are_rearranged (pre.names_of bindings.now) required.now }
 {
-    are_all_wanted(bindings, wanted) && are_different(bindings) && are_all_bound(bindings, wanted)
+    are_all_required(bindings, required)
+        && are_different(bindings)
+        && are_all_bound(bindings, required)
 }
 
 // Whether a binding is to the output of this number.
@@ -203,11 +205,11 @@ fn is_held(accounts: &[Account], output: &MadeOutput, owner: &Name, value: u64) 
         && output.value() == value
 }
 
-// Whether the output of this number is a live deposit of the owner and the value that are wanted.
-fn suits(board: &Board, wanted: Option<(Name, u64)>, number: u32) -> bool
-    ensures { result ≡ suits_if board.now.accounts (option_map holding_by wanted) (slice_get board.now.coins.outputs number) }
+// Whether the output of this number is a live deposit of the owner and the value that are needed.
+fn suits(board: &Board, required: Option<(Name, u64)>, number: u32) -> bool
+    ensures { result ≡ suits_if board.now.accounts (option_map holding_by required) (slice_get board.now.coins.outputs number) }
 {
-    match wanted {
+    match required {
         Some((owner, value)) => match board.coins.output(number) {
             Some(output) => is_held(board.accounts.as_slice(), output, &owner, value),
             None => false,
@@ -216,7 +218,7 @@ fn suits(board: &Board, wanted: Option<(Name, u64)>, number: u32) -> bool
     }
 }
 
-// The name of the first binding to a deposit of another owner or value than these entries want.
+// The name of the first binding to a deposit of another owner or value than these entries need.
 fn unsuited(board: &Board, entries: &[Pre], bindings: &[(Name, u32)]) -> Option<Name>
     ensures { result ≡ unsuited_by board.now.accounts board.now.coins.outputs entries.now bindings.now }
 {
@@ -243,13 +245,13 @@ fn has_honest(board: &Board, parties: &[Name]) -> bool
 // What the names are bound to, in their order; 0 where one isn't bound.
 fn arranged(
     alloc: Global,
-    wanted: &[Name],
+    required: &[Name],
     bindings: &[(Name, u32)],
 ) -> Result<Seq<(Name, u32)>, OutOfMemory>
-    ensures { IfOk result (λ list. list ≡ spec.arranged 0 wanted.now bindings.now) }
+    ensures { IfOk result (λ list. list ≡ spec.arranged 0 required.now bindings.now) }
 {
     let mut list = Seq::new(alloc);
-    for name in wanted {
+    for name in required {
         list.push((*name, bound_to(bindings, name)))?;
     }
     Ok(list)
@@ -274,7 +276,7 @@ fn entries_of(checked: &Checked) -> &[Pre]
     checked.advert().pre.as_slice()
 }
 
-// The name of the first binding to a deposit of another owner or value than the contract wants.
+// The name of the first binding to a deposit of another owner or value than the contract needs.
 fn unsuited_in(board: &Board, contract: u32, bindings: &[(Name, u32)]) -> Option<Name>
     ensures { (hash : List ℕ → List ℕ) (messages : List (List ℕ)) → board.now.accounts ≡ map (account_of hash) board.now.header.parties
         → result ≡ spec.unsuited (setup_of hash board.now) (world_of board.now messages) contract bindings.now }
@@ -300,9 +302,9 @@ fn advertise_refusal(
     board: &Board,
     contract: u32,
     bindings: &[(Name, u32)],
-    wanted: &[Name],
+    required: &[Name],
 ) -> Option<Reason>
-    requires { wanted.now ≡ pre.names_of (pre.deposits (pre_of (slice_get board.now.contracts contract))) }
+    requires { required.now ≡ pre.names_of (pre.deposits (pre_of (slice_get board.now.contracts contract))) }
     ensures { (hash : List ℕ → List ℕ) (messages : List (List ℕ)) → board.now.accounts ≡ map (account_of hash) board.now.header.parties
         → result ≡ first_reason (spec.advertise_row (setup_of hash board.now) (world_of board.now messages) contract bindings.now) }
 {
@@ -312,7 +314,7 @@ fn advertise_refusal(
     if board.exchange.bindings(contract).is_some() {
         return Some(Reason::AdvertFull);
     }
-    if !are_rearranged(bindings, wanted) {
+    if !are_rearranged(bindings, required) {
         return Some(Reason::WrongNames);
     }
     if let Some(name) = repeated(bindings) {
@@ -330,21 +332,21 @@ fn advertise_refusal(
     None
 }
 
-/// The draft of `advertise`; it hashes nothing.
-pub fn draft_advertise(
+/// The pending effect of `advertise`; it hashes nothing.
+pub fn pending_advertise(
     alloc: Global,
     board: &Board,
     contract: u32,
     bindings: &[(Name, u32)],
-) -> Result<Drafted, OutOfMemory>
+) -> Result<PendingChange, OutOfMemory>
     ensures { IfOk result (λ d. (hash : List ℕ → List ℕ) (messages : List (List ℕ)) → board.now.accounts ≡ map (account_of hash) board.now.header.parties
         → evidence_of hash messages ≡ None
-        → Drafts hash (world_of board.now messages) messages messages (spec.advertise_draft (setup_of hash board.now) (world_of board.now messages) contract bindings.now) d) }
+        → Prepares hash (world_of board.now messages) messages messages (spec.advertise_pending (setup_of hash board.now) (world_of board.now messages) contract bindings.now) d) }
 {
-    let wanted = deposit_names(alloc, board, contract)?;
-    if let Some(reason) = advertise_refusal(board, contract, bindings, wanted.as_slice()) {
-        return Ok(Drafted::refused(alloc, reason));
+    let required = deposit_names(alloc, board, contract)?;
+    if let Some(reason) = advertise_refusal(board, contract, bindings, required.as_slice()) {
+        return Ok(PendingChange::refused(alloc, reason));
     }
-    let bindings = arranged(alloc, wanted.as_slice(), bindings)?;
-    Ok(Drafted::done(alloc, Change::Advertise(Advertised { contract, bindings })))
+    let bindings = arranged(alloc, required.as_slice(), bindings)?;
+    Ok(PendingChange::done(alloc, Change::Advertise(Advertised { contract, bindings })))
 }

@@ -1,4 +1,5 @@
-//! What each event that needs no compiled contract is to come to.
+//! The events that need no compiled contract: advertise, post, reveal, sign and mine. Each is refused or gives its
+//! effect, which `bm_world_apply` applies.
 #![tactic(auto)]
 
 mod advertising;
@@ -7,8 +8,8 @@ mod posting;
 mod revealing;
 mod signing;
 
-pub use advertising::draft_advertise;
-pub use mining::draft_mine;
-pub use posting::draft_post;
-pub use revealing::draft_reveal;
-pub use signing::draft_sign;
+pub use advertising::pending_advertise;
+pub use mining::pending_mine;
+pub use posting::pending_post;
+pub use revealing::pending_reveal;
+pub use signing::pending_sign;

@@ -4,10 +4,10 @@ ghost use Rattle.std.specs.Prelude.{◌≡◌, ℕ, List, ◌+◌, ◌≤◌, No
 ghost use Rattle.spec_data.specs.Ranges.{last_height};
 ghost use Rattle.spec_data.specs.Lists.{first_reason};
 ghost use Rattle.bm_hash.specs.Messages.{evidence_of};
-ghost use Rattle.spec_run.specs.Event.{mine_row, mine_draft};
-ghost use Rattle.bm_world_board.specs.Drafts.{world_of, Drafts};
+ghost use Rattle.spec_run.specs.Event.{mine_row, mine_pending};
+ghost use Rattle.bm_world_board.specs.Prepares.{world_of, Prepares};
 
-use bm_world_board::{Board, Change, Drafted};
+use bm_world_board::{Board, Change, PendingChange};
 use spec_data::LAST_HEIGHT;
 use spec_run::Reason;
 use std::alloc::Global;
@@ -23,12 +23,12 @@ fn mine_refusal(board: &Board, blocks: u32) -> Option<Reason>
     None
 }
 
-/// The draft of `mine`; it hashes nothing.
-pub fn draft_mine(alloc: Global, board: &Board, blocks: u32) -> Drafted
-    ensures { (hash : List ℕ → List ℕ) (messages : List (List ℕ)) → evidence_of hash messages ≡ None → Drafts hash (world_of board.now messages) messages messages (mine_draft (world_of board.now messages) blocks) result }
+/// The pending effect of `mine`; it hashes nothing.
+pub fn pending_mine(alloc: Global, board: &Board, blocks: u32) -> PendingChange
+    ensures { (hash : List ℕ → List ℕ) (messages : List (List ℕ)) → evidence_of hash messages ≡ None → Prepares hash (world_of board.now messages) messages messages (mine_pending (world_of board.now messages) blocks) result }
 {
     if let Some(reason) = mine_refusal(board, blocks) {
-        return Drafted::refused(alloc, reason);
+        return PendingChange::refused(alloc, reason);
     }
-    Drafted::done(alloc, Change::Blocks(blocks))
+    PendingChange::done(alloc, Change::Blocks(blocks))
 }

@@ -3,11 +3,11 @@
 ghost use Rattle.std.specs.Prelude.{◌≡◌, ◌∷◌, [], None, IfOk, IfErr};
 ghost use Rattle.bm_hash.specs.Trails.{StopsAlong};
 ghost use Rattle.spec_run.specs.World.{World};
-ghost use Rattle.spec_run.specs.Draft.{posting};
-ghost use Rattle.bm_world_board.specs.Drafts.{Drafts};
+ghost use Rattle.spec_run.specs.Pending.{posting};
+ghost use Rattle.bm_world_board.specs.Prepares.{Prepares};
 
 use bm_hash::{Hash32, Trail, TrailError};
-use bm_world_board::{Change, Drafted};
+use bm_world_board::{Change, PendingChange};
 use spec_data::{Bytes, Name, OutOfMemory, Seq};
 use spec_run::Outcome;
 use std::alloc::Global;
@@ -21,21 +21,21 @@ fn one_string(alloc: Global, string: &[u8]) -> Result<Seq<Bytes>, OutOfMemory>
     Ok(list)
 }
 
-/// The draft of an event that posts this string, which may be the secret of this owner and name.
+/// The pending effect of an event that posts this string, which may be the secret of this owner and name.
 #[tactic(auto, using(bm_hash::proofs::HashesLemmas::stops_late))]
-pub(crate) fn draft_posting<H: Hash32 + Drop>(
+pub(crate) fn pending_posting<H: Hash32 + Drop>(
     alloc: Global,
     trail: &mut Trail<H>,
     string: &[u8],
     allowed: Option<(Name, Name)>,
-) -> Result<Drafted, TrailError>
+) -> Result<PendingChange, TrailError>
     ensures hasher { trail.new.hasher ≡ trail.old.hasher }
-    ensures ok { IfOk result (λ d. (w : World) → Drafts (H.digest_of trail.old.hasher) w trail.old.messages trail.new.messages (posting w string.now allowed) d) }
+    ensures ok { IfOk result (λ d. (w : World) → Prepares (H.digest_of trail.old.hasher) w trail.old.messages trail.new.messages (posting w string.now allowed) d) }
     ensures err { IfErr result (StopsAlong H.digest_of trail.old trail.new (string.now ∷ [])) }
 {
     trail.hash(string)?;
     let posts = one_string(alloc, string)?;
-    Ok(Drafted {
+    Ok(PendingChange {
         outcome: Outcome::Done,
         posts,
         allowed,
@@ -43,15 +43,15 @@ pub(crate) fn draft_posting<H: Hash32 + Drop>(
     })
 }
 
-/// The draft of `post`.
-pub fn draft_post<H: Hash32 + Drop>(
+/// The pending effect of `post`.
+pub fn pending_post<H: Hash32 + Drop>(
     alloc: Global,
     trail: &mut Trail<H>,
     string: &[u8],
-) -> Result<Drafted, TrailError>
+) -> Result<PendingChange, TrailError>
     ensures hasher { trail.new.hasher ≡ trail.old.hasher }
-    ensures ok { IfOk result (λ d. (w : World) → Drafts (H.digest_of trail.old.hasher) w trail.old.messages trail.new.messages (posting w string.now None) d) }
+    ensures ok { IfOk result (λ d. (w : World) → Prepares (H.digest_of trail.old.hasher) w trail.old.messages trail.new.messages (posting w string.now None) d) }
     ensures err { IfErr result (StopsAlong H.digest_of trail.old trail.new (string.now ∷ [])) }
 {
-    draft_posting(alloc, trail, string, None)
+    pending_posting(alloc, trail, string, None)
 }

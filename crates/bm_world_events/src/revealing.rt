@@ -7,14 +7,14 @@ ghost use Rattle.bm_hash.specs.Messages.{evidence_of};
 ghost use Rattle.bm_hash.specs.Trails.{StopsAlong};
 ghost use Rattle.spec_run.specs.Setup.{pre_of, held_among, bytes_or_none};
 ghost use Rattle.spec_run.specs.World.{World};
-ghost use Rattle.spec_run.specs.Draft.{posting};
-ghost use Rattle.spec_run.specs.Revealing.{reveal_row, reveal_draft};
-ghost use Rattle.bm_world_board.specs.Drafts.{setup_of, world_of, Drafts};
+ghost use Rattle.spec_run.specs.Pending.{posting};
+ghost use Rattle.spec_run.specs.Revealing.{reveal_row, reveal_pending};
+ghost use Rattle.bm_world_board.specs.Prepares.{setup_of, world_of, Prepares};
 
-use crate::posting::draft_posting;
+use crate::posting::pending_posting;
 use bm_exchange::held_secret;
 use bm_hash::{Hash32, Trail, TrailError};
-use bm_world_board::{Board, Drafted};
+use bm_world_board::{Board, PendingChange};
 use spec_data::{Bytes, Name, OutOfMemory};
 use spec_run::{HeldSecret, Reason};
 use spec_terms::Pre;
@@ -96,42 +96,42 @@ fn reveal_refusal(board: &Board, contract: u32, party: &Name, secret: &Name) -> 
     None
 }
 
-// The draft of an event that posts the party's own secret.
+// The pending effect of an event that posts the party's own secret.
 #[tactic(auto, using(bm_hash::proofs::HashesLemmas::stops_early))]
-fn draft_own<H: Hash32 + Drop>(
+fn pending_own<H: Hash32 + Drop>(
     alloc: Global,
     trail: &mut Trail<H>,
     secrets: &[HeldSecret],
     party: &Name,
     secret: &Name,
-) -> Result<Drafted, TrailError>
+) -> Result<PendingChange, TrailError>
     requires clear { evidence_of (H.digest_of trail.old.hasher) trail.old.messages ≡ None }
     ensures hasher { trail.new.hasher ≡ trail.old.hasher }
-    ensures ok { IfOk result (λ d. (w : World) → Drafts (H.digest_of trail.old.hasher) w trail.old.messages trail.new.messages (posting w (bytes_or_none (held_among party.now secret.now secrets.now)) (Some (party.now, secret.now))) d) }
+    ensures ok { IfOk result (λ d. (w : World) → Prepares (H.digest_of trail.old.hasher) w trail.old.messages trail.new.messages (posting w (bytes_or_none (held_among party.now secret.now secrets.now)) (Some (party.now, secret.now))) d) }
     ensures err { IfErr result (StopsAlong H.digest_of trail.old trail.new (bytes_or_none (held_among party.now secret.now secrets.now) ∷ [])) }
 {
     let bytes = own_bytes(alloc, secrets, party, secret)?;
-    let drafted = draft_posting(alloc, trail, bytes.as_slice(), Some((*party, *secret)))?;
-    Ok(drafted)
+    let pending_change = pending_posting(alloc, trail, bytes.as_slice(), Some((*party, *secret)))?;
+    Ok(pending_change)
 }
 
-/// The draft of `reveal`.
-pub fn draft_reveal<H: Hash32 + Drop>(
+/// The pending effect of `reveal`.
+pub fn pending_reveal<H: Hash32 + Drop>(
     alloc: Global,
     trail: &mut Trail<H>,
     board: &Board,
     contract: u32,
     party: &Name,
     secret: &Name,
-) -> Result<Drafted, TrailError>
+) -> Result<PendingChange, TrailError>
     requires clear { evidence_of (H.digest_of trail.old.hasher) trail.old.messages ≡ None }
     ensures hasher { trail.new.hasher ≡ trail.old.hasher }
-    ensures ok { IfOk result (Drafts (H.digest_of trail.old.hasher) (world_of board.now trail.old.messages) trail.old.messages trail.new.messages (reveal_draft (setup_of (H.digest_of trail.old.hasher) board.now) (world_of board.now trail.old.messages) contract party.now secret.now)) }
-    ensures err { IfErr result (StopsAlong H.digest_of trail.old trail.new ((reveal_draft (setup_of (H.digest_of trail.old.hasher) board.now) (world_of board.now trail.old.messages) contract party.now secret.now).hashes)) }
+    ensures ok { IfOk result (Prepares (H.digest_of trail.old.hasher) (world_of board.now trail.old.messages) trail.old.messages trail.new.messages (reveal_pending (setup_of (H.digest_of trail.old.hasher) board.now) (world_of board.now trail.old.messages) contract party.now secret.now)) }
+    ensures err { IfErr result (StopsAlong H.digest_of trail.old trail.new ((reveal_pending (setup_of (H.digest_of trail.old.hasher) board.now) (world_of board.now trail.old.messages) contract party.now secret.now).hashes)) }
 {
     if let Some(reason) = reveal_refusal(board, contract, party, secret) {
-        return Ok(Drafted::refused(alloc, reason));
+        return Ok(PendingChange::refused(alloc, reason));
     }
-    let drafted = draft_own(alloc, trail, board.header.secrets.as_slice(), party, secret)?;
-    Ok(drafted)
+    let pending_change = pending_own(alloc, trail, board.header.secrets.as_slice(), party, secret)?;
+    Ok(pending_change)
 }

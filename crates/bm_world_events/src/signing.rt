@@ -5,13 +5,13 @@ ghost use Rattle.spec_data.specs.Lists.{first_reason};
 ghost use Rattle.bm_hash.specs.Messages.{evidence_of};
 ghost use Rattle.bm_hash.specs.Trails.{Hashes, StopsAlong};
 ghost use Rattle.spec_bitcoin.specs.Keys.{key_of, label_text};
-ghost use Rattle.spec_run.specs.Signing.{label_party, signed, sign_row, sign_draft};
-ghost use Rattle.bm_world_board.specs.Drafts.{setup_of, world_of, Drafts, Signs};
+ghost use Rattle.spec_run.specs.Signing.{label_party, signed, sign_row, sign_pending};
+ghost use Rattle.bm_world_board.specs.Prepares.{setup_of, world_of, Prepares, Signs};
 
 use bm_book::Book;
 use bm_hash::{Hash32, Trail, TrailError};
 use bm_keys::key;
-use bm_world_board::{Board, Change, Drafted};
+use bm_world_board::{Board, Change, PendingChange};
 use spec_bitcoin::Label;
 use spec_data::Name;
 use spec_run::Reason;
@@ -57,24 +57,24 @@ fn sign_digest<H: Hash32 + Drop>(
     Ok(())
 }
 
-/// The draft of `sign`, whose pair is then in the book.
-pub fn draft_sign<H: Hash32 + Drop>(
+/// The pending effect of `sign`, whose pair is then in the book.
+pub fn pending_sign<H: Hash32 + Drop>(
     alloc: Global,
     trail: &mut Trail<H>,
     board: &mut Board,
     party: &Name,
     label: &Label,
     digest: &[u8; 32],
-) -> Result<Drafted, TrailError>
+) -> Result<PendingChange, TrailError>
     requires clear { evidence_of (H.digest_of trail.old.hasher) trail.old.messages ≡ None }
     ensures hasher { trail.new.hasher ≡ trail.old.hasher }
     ensures board { Signs board.old board.new }
-    ensures ok { IfOk result (Drafts (H.digest_of trail.old.hasher) (world_of board.new trail.old.messages) trail.old.messages trail.new.messages (sign_draft (setup_of (H.digest_of trail.old.hasher) board.old) (world_of board.old trail.old.messages) party.now label.now digest.now)) }
-    ensures err { IfErr result (StopsAlong H.digest_of trail.old trail.new ((sign_draft (setup_of (H.digest_of trail.old.hasher) board.old) (world_of board.old trail.old.messages) party.now label.now digest.now).hashes)) }
+    ensures ok { IfOk result (Prepares (H.digest_of trail.old.hasher) (world_of board.new trail.old.messages) trail.old.messages trail.new.messages (sign_pending (setup_of (H.digest_of trail.old.hasher) board.old) (world_of board.old trail.old.messages) party.now label.now digest.now)) }
+    ensures err { IfErr result (StopsAlong H.digest_of trail.old trail.new ((sign_pending (setup_of (H.digest_of trail.old.hasher) board.old) (world_of board.old trail.old.messages) party.now label.now digest.now).hashes)) }
 {
     if let Some(reason) = sign_refusal(board, party, label) {
-        return Ok(Drafted::refused(alloc, reason));
+        return Ok(PendingChange::refused(alloc, reason));
     }
     sign_digest(alloc, trail, &mut board.book, label, digest)?;
-    Ok(Drafted::done(alloc, Change::Nothing))
+    Ok(PendingChange::done(alloc, Change::Nothing))
 }

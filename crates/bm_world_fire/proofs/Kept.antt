@@ -23,5 +23,11 @@ pub placed_by : (s : Setup) (w : World) → AreStanding s w → IsPlaced s w
 placed_by s w are = record {
   held = λ n held h.
       let is : IsStanding s w held = are.held n held h in
-      record { instance = is.instance; compiled = is.compiled; choice = is.choice; stands = term_choice s.hash is.instance held.position is.here is.choice is.stands };
+      record {
+        instance = is.instance;
+        compiled = is.compiled;
+        choice = is.choice;
+        stands = term_choice s.hash is.instance held.position
+            is.here is.choice is.stands;
+      };
 }

@@ -27,7 +27,8 @@ module _ (s : Setup) (messages posted : List (List ℕ)) (clear : evidence_of s.
   pub fitting_by : (d : List ℕ) → fitting s posted d ≡ option_and_then (if_shown posted) (message_of s.hash messages d)
   fitting_by d = by_found (fitting s posted d) refl
     where
-      with_string : (t : List ℕ) → is_among t posted ≡ true → fits s d t ≡ true → (o : Option (List ℕ)) → message_of s.hash messages d ≡ o → Some t ≡ option_and_then (if_shown posted) o
+      with_string : (t : List ℕ) → is_among t posted ≡ true → fits s d t ≡ true → (o : Option (List ℕ)) → message_of s.hash messages d ≡ o
+          → Some t ≡ option_and_then (if_shown posted) o
       with_string t there fit None none =
           let p = and_parts (is_secret_long t) (bytes_eq (s.hash t) d) fit in
           absurd (both_ways _ (none_at (λ x. bytes_eq (s.hash x) d) messages t none (noted_among messages t (heard t there))) p.1)
@@ -61,7 +62,8 @@ named_digest : (hashes : List (List ℕ × List ℕ)) (name d : List ℕ) → lo
 named_digest [] name d e = cc
 named_digest (h ∷ hs) name d e = by_test (bytes_eq (h.0) name) e (named_digest hs name d)
   where
-    by_test : (b : Bool) → (if b then Some (h.1) else look_up name hs) ≡ Some d → (look_up name hs ≡ Some d → digest_of hs name ≡ d) → (if b then h.1 else digest_of hs name) ≡ d
+    by_test : (b : Bool) → (if b then Some (h.1) else look_up name hs) ≡ Some d → (look_up name hs ≡ Some d → digest_of hs name ≡ d)
+        → (if b then h.1 else digest_of hs name) ≡ d
     by_test true q ih = cc
     by_test false q ih = ih q
 
@@ -69,7 +71,8 @@ no_digest : (hashes : List (List ℕ × List ℕ)) (name : List ℕ) → look_up
 no_digest [] name e = refl
 no_digest (h ∷ hs) name e = by_test (bytes_eq (h.0) name) e (no_digest hs name)
   where
-    by_test : (b : Bool) → (if b then Some (h.1) else look_up name hs) ≡ None → (look_up name hs ≡ None → digest_of hs name ≡ []) → (if b then h.1 else digest_of hs name) ≡ []
+    by_test : (b : Bool) → (if b then Some (h.1) else look_up name hs) ≡ None → (look_up name hs ≡ None → digest_of hs name ≡ [])
+        → (if b then h.1 else digest_of hs name) ≡ []
     by_test true q ih = cc
     by_test false q ih = ih q
 
@@ -87,10 +90,12 @@ module _ (s : Setup) (sized : (m : List ℕ) → length (s.hash m) ≡ 32) where
   none_empty (t ∷ ts) = let n : fits s [] t ≡ false = never t (is_secret_long t) in rw n (none_empty ts)
 
   -- no string is shown of a name without a digest
-  pub shown_none : (posted : List (List ℕ)) (hashes : List (List ℕ × List ℕ)) (name : List ℕ) → look_up name hashes ≡ None → None ≡ shown_by s posted hashes name
+  pub shown_none : (posted : List (List ℕ)) (hashes : List (List ℕ × List ℕ)) (name : List ℕ) → look_up name hashes ≡ None → None
+      ≡ shown_by s posted hashes name
   shown_none posted hashes name e = sym (ap (fitting s posted) (no_digest hashes name e) ∙ none_empty posted)
 
 -- the string that is shown of a name with this digest
-pub shown_some : (s : Setup) (messages posted : List (List ℕ)) → evidence_of s.hash messages ≡ None → ((t : List ℕ) → is_among t posted ≡ true → is_among t messages ≡ true) → (hashes : List (List ℕ × List ℕ)) (name d : List ℕ)
+pub shown_some : (s : Setup) (messages posted : List (List ℕ)) → evidence_of s.hash messages ≡ None
+    → ((t : List ℕ) → is_among t posted ≡ true → is_among t messages ≡ true) → (hashes : List (List ℕ × List ℕ)) (name d : List ℕ)
     → look_up name hashes ≡ Some d → shown_by s posted hashes name ≡ option_and_then (if_shown posted) (message_of s.hash messages d)
 shown_some s messages posted clear heard hashes name d e = ap (fitting s posted) (named_digest hashes name d e) ∙ fitting_by s messages posted clear heard d

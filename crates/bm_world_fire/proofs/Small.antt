@@ -50,11 +50,13 @@ length-witnessed (i ∷ is) (w ∷ ws) = ap suc (length-witnessed is ws)
 
 -- ---- outputs of a branch
 
-length_parts : (hash : List ℕ → List ℕ) (st : Instance) (path : List PathStep) (k : ℕ) (ps : Parts) → length (part_outputs hash st path k ps) ≡ length (parts_list ps)
+length_parts : (hash : List ℕ → List ℕ) (st : Instance) (path : List PathStep) (k : ℕ) (ps : Parts)
+    → length (part_outputs hash st path k ps) ≡ length (parts_list ps)
 length_parts hash st path k no_part = refl
 length_parts hash st path k (part v c ps) = ap suc (length_parts hash st path (k + 1) ps)
 
-outputs_few : (hash : List ℕ → List ℕ) (st : Instance) (path : List PathStep) (v : ℕ) (c : term.Guarded) → is_readable_branch c ≡ true → length (core_outputs hash st path v c) ≤ 64
+outputs_few : (hash : List ℕ → List ℕ) (st : Instance) (path : List PathStep) (v : ℕ) (c : term.Guarded) → is_readable_branch c ≡ true
+    → length (core_outputs hash st path v c) ≤ 64
 outputs_few hash st path v (put_reveal puts reveals test next) r = omega arith
 outputs_few hash st path v (withdraw party) r = omega arith
 outputs_few hash st path v (split ps) r =
@@ -149,7 +151,8 @@ module _ (s : Setup) (setup : IsSetup s) (g : Configuration) (w : World) (keeps 
                   record {
                     inputs = subst (λ (x : Tx). length x.inputs ≤ 524288) z inputs;
                     outputs = subst (λ (x : Tx). length x.outputs ≤ 524288) z outputs;
-                    numbered = taken_numbered s setup.hash setup.few_contracts [] g w keeps.book (fits s setup g w keeps) (checks s setup g w keeps) keeps.clear n j tx h;
+                    numbered = taken_numbered s setup.hash setup.few_contracts [] g w keeps.book (fits s setup g w keeps)
+                        (checks s setup g w keeps) keeps.clear n j tx h;
                   }
 
   pub small_of : AreSmall s w

@@ -32,10 +32,12 @@ module _ (s : Setup) (w : World) (k : ℕ) where
   initial_none e = sym (ap (initial_by s) (instance_none e))
 
   -- compiled
-  pub initial_some : (a : Advert) (n : Numbered) → contract_at s k ≡ Some a → option_map (numbered s.hash) (compiled_instance s w k) ≡ Some n → Some (initial_with s.hash a.pre n.init) ≡ initial_by s (compiled_instance s w k)
+  pub initial_some : (a : Advert) (n : Numbered) → contract_at s k ≡ Some a → option_map (numbered s.hash) (compiled_instance s w k)
+      ≡ Some n → Some (initial_with s.hash a.pre n.init) ≡ initial_by s (compiled_instance s w k)
   initial_some a n there e = by_instance (compiled_instance s w k) refl e
     where
-      by_instance : (o : Option Instance) → compiled_instance s w k ≡ o → option_map (numbered s.hash) o ≡ Some n → Some (initial_with s.hash a.pre n.init) ≡ initial_by s o
+      by_instance : (o : Option Instance) → compiled_instance s w k ≡ o → option_map (numbered s.hash) o ≡ Some n
+          → Some (initial_with s.hash a.pre n.init) ≡ initial_by s o
       by_instance None c q = cc
       by_instance (Some st) c q =
           let is = compiled_is s w k st c in
@@ -49,9 +51,11 @@ module _ (s : Setup) (w : World) (k : ℕ) where
   -- ---- refusals
 
   pub refused_nowhere : contract_at s k ≡ None → Some reason.NoContract ≡ first_reason (fire_init_row s w k)
-  refused_nowhere e = sym (ap (λ o. if not (is_some o) then Some reason.NoContract else first_reason ((not (is_some (compiled_instance s w k)), reason.NotCompiled) ∷ [])) e)
+  refused_nowhere e =
+      sym (ap (λ o. if not (is_some o) then Some reason.NoContract else first_reason ((not (is_some (compiled_instance s w k)), reason.NotCompiled) ∷ [])) e)
 
-  pub refused_uncompiled : (a : Advert) → contract_at s k ≡ Some a → option_map (numbered s.hash) (compiled_instance s w k) ≡ None → Some reason.NotCompiled ≡ first_reason (fire_init_row s w k)
+  pub refused_uncompiled : (a : Advert) → contract_at s k ≡ Some a → option_map (numbered s.hash) (compiled_instance s w k) ≡ None
+      → Some reason.NotCompiled ≡ first_reason (fire_init_row s w k)
   refused_uncompiled a there e =
       sym (ap (λ o. if not (is_some o) then Some reason.NoContract else first_reason ((not (is_some (compiled_instance s w k)), reason.NotCompiled) ∷ [])) there
       ∙ ap (λ o. if not (is_some o) then Some reason.NotCompiled else None) (instance_none e))
@@ -60,7 +64,8 @@ module _ (s : Setup) (w : World) (k : ℕ) where
   instance_some n None e = cc
   instance_some n (Some st) e = refl
 
-  pub passed : (a : Advert) (n : Numbered) → contract_at s k ≡ Some a → option_map (numbered s.hash) (compiled_instance s w k) ≡ Some n → None ≡ first_reason (fire_init_row s w k)
+  pub passed : (a : Advert) (n : Numbered) → contract_at s k ≡ Some a → option_map (numbered s.hash) (compiled_instance s w k) ≡ Some n
+      → None ≡ first_reason (fire_init_row s w k)
   passed a n there e =
       sym (ap (λ o. if not (is_some o) then Some reason.NoContract else first_reason ((not (is_some (compiled_instance s w k)), reason.NotCompiled) ∷ [])) there
       ∙ ap (λ b. if not b then Some reason.NotCompiled else None) (instance_some n (compiled_instance s w k) e))

@@ -66,7 +66,8 @@ module _ (s : Setup) (w : World) (held : ContractPosition) (is : IsStanding s w 
   chosen = ap (λ o. contract_in o held.position) advert_there ∙ choice_there
 
   pub script_there : script_at s.hash is.instance held.position ≡ Some (position_script s.hash is.instance held.position is.choice)
-  script_there = ap (option_map (λ (p : Standing × Contract). p.0.output.script)) is.stands ∙ ap Some (position_stands s.hash is.instance held.position is.here is.choice is.stands).script
+  script_there = ap (option_map (λ (p : Standing × Contract). p.0.output.script)) is.stands
+      ∙ ap Some (position_stands s.hash is.instance held.position is.here is.choice is.stands).script
 
   pub number_of : (n : Numbered) → option_map (numbered s.hash) (compiled_instance s w held.contract) ≡ Some n → n ≡ numbered s.hash is.instance
   number_of n e =
@@ -81,7 +82,8 @@ module _ (s : Setup) (w : World) (held : ContractPosition) (is : IsStanding s w 
   pub taking_none : (j : ℕ) → position_branch s held j ≡ None → taking_of_position s w (Some held) j ≡ None
   taking_none j none = λ i. taking_of_parts s w held j (is.compiled i) (chosen i) (none i) (prepared_if_compiled s (is.compiled i) (position_path held j))
 
-  pub script_is : (script : List ℕ) → Some script ≡ script_at s.hash is.instance held.position → script ≡ position_script s.hash is.instance held.position is.choice
+  pub script_is : (script : List ℕ) → Some script ≡ script_at s.hash is.instance held.position → script
+      ≡ position_script s.hash is.instance held.position is.choice
   script_is script e = let x : (let y : Option (List ℕ) = Some script in y) ≡ Some (position_script s.hash is.instance held.position is.choice) = e ∙ script_there in cc
 
   module _ (j : ℕ) (b : term.Guarded) (found : position_branch s held j ≡ Some b) where
@@ -99,18 +101,23 @@ module _ (s : Setup) (w : World) (held : ContractPosition) (is : IsStanding s w 
     pub made_there : prepared_at s.hash is.instance (position_path held j) ≡ Some (prepared s.hash (branch_unsigned s.hash is.instance is.here j b))
     made_there = ap (option_map (prepared s.hash)) (unsigned_of_branch s.hash is.instance held.position is.here is.choice j b is.stands branch_there)
 
-    pub made_is : (made : Prepared) → Some made ≡ prepared_at s.hash is.instance (position_path held j) → made ≡ prepared s.hash (branch_unsigned s.hash is.instance is.here j b)
+    pub made_is : (made : Prepared) → Some made ≡ prepared_at s.hash is.instance (position_path held j) → made
+        ≡ prepared s.hash (branch_unsigned s.hash is.instance is.here j b)
     made_is made e = let x : (let y : Option Prepared = Some made in y) ≡ Some (prepared s.hash (branch_unsigned s.hash is.instance is.here j b)) = e ∙ made_there in cc
 
     pub some_digest : 0 < length (prepared s.hash (branch_unsigned s.hash is.instance is.here j b)).digests
     some_digest = omega arith
 
-    signatures_are : (digest : List ℕ) → map (signed_by s.hash held.contract (position_path held j) digest) (participants is.instance.advert) ≡ branch_signatures s is.instance (position_path held j) digest
+    signatures_are : (digest : List ℕ) → map (signed_by s.hash held.contract (position_path held j) digest)
+        (participants is.instance.advert) ≡ branch_signatures s is.instance (position_path held j) digest
     signatures_are digest =
         ap (λ k. map (signed_by s.hash k (position_path held j) digest) (participants is.instance.advert)) (sym number_is)
-        ∙ sym (map-map (λ key. signature_of key digest) (λ party. key_of s.hash (branch_label is.instance.contract (position_path held j) party)) (participants is.instance.advert))
+        ∙ sym (map-map (λ key. signature_of key digest)
+        (λ party. key_of s.hash (branch_label is.instance.contract (position_path held j) party)) (participants is.instance.advert))
 
-    pub taking_is : Some (taking_with s w.posted held.contract is.instance.advert (digests_at w.promises held.contract) (position_path held j) j (length (branches is.choice)) b (prepared s.hash (branch_unsigned s.hash is.instance is.here j b)) (position_script s.hash is.instance held.position is.choice))
+    pub taking_is : Some (taking_with s w.posted held.contract is.instance.advert (digests_at w.promises held.contract)
+        (position_path held j) j (length (branches is.choice)) b (prepared s.hash (branch_unsigned s.hash is.instance is.here j b))
+        (position_script s.hash is.instance held.position is.choice))
         ≡ taking_of_position s w (Some held) j
     taking_is =
         let d = prepared s.hash (branch_unsigned s.hash is.instance is.here j b) in

@@ -20,7 +20,8 @@ use Rattle.bm_compile.specs.Numbered.{Numbered, numbered}
 use Rattle.bm_world_fire.specs.Shown.{first_unshown_by}
 use Rattle.bm_world_fire.proofs.Started.{instance_none}
 
-unshown_each : (s : Setup) (w : World) (instance : Instance) (names : List (List ℕ)) → first_unshown_by s w.posted instance.hashes names ≡ first_unshown s w instance names
+unshown_each : (s : Setup) (w : World) (instance : Instance) (names : List (List ℕ)) → first_unshown_by s w.posted instance.hashes names
+    ≡ first_unshown s w instance names
 unshown_each s w instance [] = refl
 unshown_each s w instance (name ∷ names) =
     ap (λ rest. if is_some (fitting s w.posted (digest_of instance.hashes name)) then rest else Some name) (unshown_each s w instance names)
@@ -33,11 +34,13 @@ module _ (s : Setup) (w : World) (k : ℕ) (b : term.Guarded) where
       → first_unshown_by s w.posted (digests_at w.promises k) (reveals_of (core b)) ≡ unknown_secret s w (compiled_instance s w k) (Some b)
   unknown_some n e = by_instance (compiled_instance s w k) refl e
     where
-      by_instance : (o : Option Instance) → compiled_instance s w k ≡ o → option_map (numbered s.hash) o ≡ Some n → first_unshown_by s w.posted (digests_at w.promises k) (reveals_of (core b)) ≡ unknown_secret s w o (Some b)
+      by_instance : (o : Option Instance) → compiled_instance s w k ≡ o → option_map (numbered s.hash) o ≡ Some n
+          → first_unshown_by s w.posted (digests_at w.promises k) (reveals_of (core b)) ≡ unknown_secret s w o (Some b)
       by_instance None c q = cc
       by_instance (Some st) c q =
           let is = compiled_is s w k st c in
-          ap (λ hashes. first_unshown_by s w.posted hashes (reveals_of (core b))) (sym (ap (λ (y : Instance). y.hashes) is.is)) ∙ unshown_each s w st (reveals_of (core b))
+          ap (λ hashes. first_unshown_by s w.posted hashes (reveals_of (core b))) (sym (ap (λ (y : Instance). y.hashes) is.is))
+          ∙ unshown_each s w st (reveals_of (core b))
 
 -- ---- refusals
 
@@ -46,7 +49,11 @@ module _ (s : Setup) (w : World) (output branch : ℕ) where
   row_by o = first_reason (
       (not (is_some o), reason.NotActive)
       ∷ (not (is_some (branch_if_live s o branch)), reason.NoBranch)
-      ∷ (is_some (unknown_secret s w (position_instance s w o) (branch_if_live s o branch)), reason.SecretUnknown (bytes_or_none (unknown_secret s w (position_instance s w o) (branch_if_live s o branch))))
+      ∷ (
+        is_some (unknown_secret s w (position_instance s w o) (branch_if_live s o branch)),
+        reason.SecretUnknown
+            (bytes_or_none (unknown_secret s w (position_instance s w o) (branch_if_live s o branch))),
+      )
       ∷ []
       )
 
@@ -57,7 +64,11 @@ module _ (s : Setup) (w : World) (output branch : ℕ) where
     abbrev row_with : Option term.Guarded → Option Reason
     row_with o = first_reason (
         (not (is_some o), reason.NoBranch)
-        ∷ (is_some (unknown_secret s w (compiled_instance s w held.contract) o), reason.SecretUnknown (bytes_or_none (unknown_secret s w (compiled_instance s w held.contract) o)))
+        ∷ (
+          is_some (unknown_secret s w (compiled_instance s w held.contract) o),
+          reason.SecretUnknown
+              (bytes_or_none (unknown_secret s w (compiled_instance s w held.contract) o)),
+        )
         ∷ []
         )
 
@@ -68,7 +79,8 @@ module _ (s : Setup) (w : World) (output branch : ℕ) where
       abbrev row_of : Option (List ℕ) → Option Reason
       row_of o = if is_some o then Some (reason.SecretUnknown (bytes_or_none o)) else None
 
-      pub refused_unknown : (name : List ℕ) → unknown_secret s w (compiled_instance s w held.contract) (Some b) ≡ Some name → Some (reason.SecretUnknown name) ≡ first_reason (fire_row s w output branch)
+      pub refused_unknown : (name : List ℕ) → unknown_secret s w (compiled_instance s w held.contract) (Some b) ≡ Some name
+          → Some (reason.SecretUnknown name) ≡ first_reason (fire_row s w output branch)
       refused_unknown name e = sym (ap row_by live ∙ ap row_with there ∙ ap row_of e)
 
       pub passed : unknown_secret s w (compiled_instance s w held.contract) (Some b) ≡ None → None ≡ first_reason (fire_row s w output branch)

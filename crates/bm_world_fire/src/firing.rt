@@ -11,7 +11,7 @@ ghost use Rattle.spec_run.specs.Firing as spec;
 ghost use Rattle.bm_syntax.specs.View.{guarded};
 ghost use Rattle.theory_world.specs.Transactions.{IsNumbered};
 ghost use Rattle.bm_match.specs.Matches.{all_compiled};
-ghost use Rattle.bm_world_board.specs.Drafts.{setup_of, world_of, Drafts};
+ghost use Rattle.bm_world_board.specs.Prepares.{setup_of, world_of, Prepares};
 ghost use Rattle.bm_world_board.specs.Reaching.{IsFresh};
 ghost use Rattle.bm_world_fire.specs.Shown.{ArePostsHashed};
 ghost use Rattle.bm_world_fire.specs.Standing.{IsSmall, AreSmall, AreStanding};
@@ -21,22 +21,22 @@ use crate::shown::first_unshown;
 use crate::taking::taking_transaction;
 use bm_hash::{Hash32, Trail, TrailError};
 use bm_syntax::{Guarded, reveals};
-use bm_world_board::{Board, Drafted};
+use bm_world_board::{Board, PendingChange};
 use bm_world_coins::HeldPosition;
-use bm_world_spend::draft_reaching;
+use bm_world_spend::pending_reaching;
 use spec_bitcoin::Tx;
 use spec_data::{Name, OutOfMemory};
 use spec_run::Reason;
 use std::alloc::Global;
 
-// The draft of a transaction that reaches the ledger, where there is one.
+// The pending effect of a transaction that reaches the ledger, where there is one.
 #[tactic(auto, using(bm_hash::proofs::HashesLemmas::stops_early))]
 fn reach_if<H: Hash32 + Drop>(
     alloc: Global,
     trail: &mut Trail<H>,
     board: &Board,
     made: Option<Tx>,
-) -> Result<Drafted, TrailError>
+) -> Result<PendingChange, TrailError>
     requires room { length board.now.coins.outputs + most_piece_bytes < 2 ^ 32 }
     requires contracts { length board.now.contracts ≤ most_contracts }
     requires clear { evidence_of (H.digest_of trail.old.hasher) trail.old.messages ≡ None }
@@ -48,25 +48,25 @@ fn reach_if<H: Hash32 + Drop>(
         (tx : Transaction) → IsNumbered tx → IsFresh s (world_of board.now trail.old.messages) tx }
     ensures hasher { trail.new.hasher ≡ trail.old.hasher }
     ensures ok { let s = setup_of (H.digest_of trail.old.hasher) board.now in let w = world_of board.now trail.old.messages in
-        IfOk result (Drafts s.hash w trail.old.messages trail.new.messages (spec.reaches_if s w made)) }
+        IfOk result (Prepares s.hash w trail.old.messages trail.new.messages (spec.reaches_if s w made)) }
     ensures err { let s = setup_of (H.digest_of trail.old.hasher) board.now in let w = world_of board.now trail.old.messages in
         IfErr result (StopsAlong H.digest_of trail.old trail.new ((spec.reaches_if s w made).hashes)) }
 {
     let Some(tx) = made else {
-        return Ok(Drafted::refused(alloc, Reason::NotCompiled));
+        return Ok(PendingChange::refused(alloc, Reason::NotCompiled));
     };
-    let drafted = draft_reaching(alloc, trail, board, tx)?;
-    Ok(drafted)
+    let pending_change = pending_reaching(alloc, trail, board, tx)?;
+    Ok(pending_change)
 }
 
-/// The draft of `fire init`.
+/// The pending effect of `fire init`.
 #[tactic(auto, using(bm_hash::proofs::HashesLemmas::stops_early))]
-pub fn draft_fire_init<H: Hash32 + Drop>(
+pub fn pending_fire_init<H: Hash32 + Drop>(
     alloc: Global,
     trail: &mut Trail<H>,
     board: &Board,
     contract: u32,
-) -> Result<Drafted, TrailError>
+) -> Result<PendingChange, TrailError>
     requires room { length board.now.coins.outputs + most_piece_bytes < 2 ^ 32 }
     requires contracts { length board.now.contracts ≤ most_contracts }
     requires clear { evidence_of (H.digest_of trail.old.hasher) trail.old.messages ≡ None }
@@ -78,16 +78,16 @@ pub fn draft_fire_init<H: Hash32 + Drop>(
         (tx : Transaction) → IsNumbered tx → IsFresh s (world_of board.now trail.old.messages) tx }
     ensures hasher { trail.new.hasher ≡ trail.old.hasher }
     ensures ok { let s = setup_of (H.digest_of trail.old.hasher) board.now in let w = world_of board.now trail.old.messages in
-        IfOk result (Drafts s.hash w trail.old.messages trail.new.messages (spec.fire_init_draft s w contract)) }
+        IfOk result (Prepares s.hash w trail.old.messages trail.new.messages (spec.fire_init_pending s w contract)) }
     ensures err { let s = setup_of (H.digest_of trail.old.hasher) board.now in let w = world_of board.now trail.old.messages in
-        IfErr result (StopsAlong H.digest_of trail.old trail.new ((spec.fire_init_draft s w contract).hashes)) }
+        IfErr result (StopsAlong H.digest_of trail.old trail.new ((spec.fire_init_pending s w contract).hashes)) }
 {
     if let Some(reason) = initial_refusal(board, contract) {
-        return Ok(Drafted::refused(alloc, reason));
+        return Ok(PendingChange::refused(alloc, reason));
     }
     let made = initial_transaction(alloc, trail.hasher(), board, contract)?;
-    let drafted = reach_if(alloc, trail, board, made)?;
-    Ok(drafted)
+    let pending_change = reach_if(alloc, trail, board, made)?;
+    Ok(pending_change)
 }
 
 // The first secret of a branch of what is held for which no fitting string is posted, where the contract is compiled.
@@ -137,15 +137,15 @@ fn taking_refusal<H: Hash32 + Drop>(
     }
 }
 
-/// The draft of `fire`.
+/// The pending effect of `fire`.
 #[tactic(auto, using(bm_hash::proofs::HashesLemmas::stops_early))]
-pub fn draft_fire<H: Hash32 + Drop>(
+pub fn pending_fire<H: Hash32 + Drop>(
     alloc: Global,
     trail: &mut Trail<H>,
     board: &Board,
     output: u32,
     branch: u32,
-) -> Result<Drafted, TrailError>
+) -> Result<PendingChange, TrailError>
     requires room { length board.now.coins.outputs + most_piece_bytes < 2 ^ 32 }
     requires contracts { length board.now.contracts ≤ most_contracts }
     requires clear { evidence_of (H.digest_of trail.old.hasher) trail.old.messages ≡ None }
@@ -158,15 +158,15 @@ pub fn draft_fire<H: Hash32 + Drop>(
         (tx : Transaction) → IsNumbered tx → IsFresh s (world_of board.now trail.old.messages) tx }
     ensures hasher { trail.new.hasher ≡ trail.old.hasher }
     ensures ok { let s = setup_of (H.digest_of trail.old.hasher) board.now in let w = world_of board.now trail.old.messages in
-        IfOk result (Drafts s.hash w trail.old.messages trail.new.messages (spec.fire_draft s w output branch)) }
+        IfOk result (Prepares s.hash w trail.old.messages trail.new.messages (spec.fire_pending s w output branch)) }
     ensures err { let s = setup_of (H.digest_of trail.old.hasher) board.now in let w = world_of board.now trail.old.messages in
-        IfErr result (StopsAlong H.digest_of trail.old trail.new ((spec.fire_draft s w output branch).hashes)) }
+        IfErr result (StopsAlong H.digest_of trail.old trail.new ((spec.fire_pending s w output branch).hashes)) }
 {
     let refusal = taking_refusal(trail, board, output, branch)?;
     if let Some(reason) = refusal {
-        return Ok(Drafted::refused(alloc, reason));
+        return Ok(PendingChange::refused(alloc, reason));
     }
     let made = taking_transaction(alloc, trail, board, output, branch)?;
-    let drafted = reach_if(alloc, trail, board, made)?;
-    Ok(drafted)
+    let pending_change = reach_if(alloc, trail, board, made)?;
+    Ok(pending_change)
 }

@@ -5,7 +5,7 @@ ghost use Rattle.spec_data.specs.Lists.{first_reason};
 ghost use Rattle.spec_run.specs.Compiled.{compiled_instance};
 ghost use Rattle.spec_run.specs.Firing as spec;
 ghost use Rattle.bm_match.specs.Matches.{all_compiled};
-ghost use Rattle.bm_world_board.specs.Drafts.{setup_of, world_of};
+ghost use Rattle.bm_world_board.specs.Prepares.{setup_of, world_of};
 ghost use Rattle.bm_world_fire.specs.Filled.{initial_with};
 
 use crate::deposits::{persistent_owners, put_witnesses};

@@ -1,4 +1,5 @@
-//! Compiled transactions that are handed to the ledger, with the witnesses that anyone can fill in.
+//! The event `fire`: takes a contract's compiled transaction, fills in the witnesses that anyone can fill in, and hands
+//! it to the ledger.
 #![tactic(auto)]
 
 mod deposits;
@@ -8,4 +9,4 @@ mod initial;
 mod shown;
 mod taking;
 
-pub use firing::{draft_fire, draft_fire_init};
+pub use firing::{pending_fire, pending_fire_init};

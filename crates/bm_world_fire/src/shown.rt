@@ -4,7 +4,7 @@ ghost use Rattle.std.specs.Prelude.{◌≡◌, ℕ, List, None, map, option_map,
 ghost use Rattle.spec_data.specs.Lists.{look_up, is_among};
 ghost use Rattle.bm_hash.specs.Messages.{evidence_of};
 ghost use Rattle.spec_run.specs.Setup.{bytes_or_none};
-ghost use Rattle.bm_world_board.specs.Drafts.{setup_of, world_of};
+ghost use Rattle.bm_world_board.specs.Prepares.{setup_of, world_of};
 ghost use Rattle.bm_world_fire.specs.Shown.{if_shown, shown_by, first_unshown_by, ArePostsHashed};
 
 use bm_exchange::{Exchange, is_secret_long};
@@ -36,7 +36,7 @@ fn if_shown<'a>(exchange: &Exchange, string: &'a [u8]) -> Option<&'a [u8]>
     }
 }
 
-/// The posted string that fits the secret of this name. There is at most one, since nothing has clashed, and each string that
+/// The posted string that fits the secret of this name. There is at most one, since nothing has collided, and each string that
 /// was posted was hashed.
 fn shown<'a, H: Hash32 + Drop>(
     trail: &'a Trail<H>,

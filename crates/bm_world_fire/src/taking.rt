@@ -14,7 +14,7 @@ ghost use Rattle.spec_run.specs.Signing.{first_of};
 ghost use Rattle.spec_run.specs.Firing as spec;
 ghost use Rattle.bm_compile.specs.Numbered.{numbered};
 ghost use Rattle.bm_match.specs.Matches.{all_compiled};
-ghost use Rattle.bm_world_board.specs.Drafts.{setup_of, world_of};
+ghost use Rattle.bm_world_board.specs.Prepares.{setup_of, world_of};
 ghost use Rattle.bm_world_fire.specs.Filled.{signed_by, deposits_items, owner_in};
 ghost use Rattle.bm_world_fire.specs.Taken.{taking_with};
 ghost use Rattle.bm_world_fire.specs.Shown.{shown_by, ArePostsHashed};

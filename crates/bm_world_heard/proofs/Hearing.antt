@@ -3,12 +3,12 @@ use Rattle.std.proofs.Common.{◌≡◌, ℕ, List, [], ◌∷◌, ◌++◌, Opt
 use Rattle.std.specs.Prelude.{IsSome}
 use Rattle.std.specs.Option.{option_or}
 use Rattle.std.proofs.lemmas.Option.{none-some}
-use Rattle.spec_data.specs.Messages.{noted, noted_all, clash, collision}
+use Rattle.spec_data.specs.Messages.{noted, noted_all, collision_with, collision}
 use Rattle.spec_bitcoin.specs.declared.tx.Tx.{Tx}
 use Rattle.spec_run.specs.declared.event.Event.{Event}
 use Rattle.spec_run.specs.World.{World}
 use Rattle.spec_run.specs.declared.outcome.Outcome.{Outcome}
-use Rattle.spec_run.specs.Event.{draft}
+use Rattle.spec_run.specs.Event.{pending}
 use Rattle.spec_run.specs.Ledger.{strings_of}
 use Rattle.theory_run.proofs.Worlds.Hashed.{noted-append}
 use Rattle.bm_hash.specs.Messages.{evidence_of}
@@ -30,7 +30,7 @@ pub collision-calm : (hash : List ℕ → List ℕ) (ms xs ys : List (List ℕ))
     → collision hash ms (xs ++ ys) ≡ collision hash (noted_all ms xs) ys
 collision-calm hash ms [] ys h = refl
 collision-calm hash ms (x ∷ xs) ys h =
-    let p = neither (clash hash ms x) (collision hash (noted ms x) xs) h in
+    let p = neither (collision_with hash ms x) (collision hash (noted ms x) xs) h in
     ap (λ o. option_or o (collision hash (noted ms x) (xs ++ ys))) p.0 ∙ collision-calm hash (noted ms x) xs ys p.1
 
 shown_first : (a b c : Option (List ℕ × List ℕ)) → IsSome (option_or a b) → (IsSome b → c ≡ b) → option_or a c ≡ option_or a b
@@ -41,7 +41,7 @@ pub collision-shown : (hash : List ℕ → List ℕ) (ms xs ys : List (List ℕ)
     → collision hash ms (xs ++ ys) ≡ collision hash ms xs
 collision-shown hash ms [] ys h = cc
 collision-shown hash ms (x ∷ xs) ys h =
-    shown_first (clash hash ms x) (collision hash (noted ms x) xs) (collision hash (noted ms x) (xs ++ ys)) h
+    shown_first (collision_with hash ms x) (collision hash (noted ms x) xs) (collision hash (noted ms x) (xs ++ ys)) h
     (collision-shown hash (noted ms x) xs ys)
 
 -- ---- worlds
@@ -101,11 +101,11 @@ module _ {H : Type 0} (digest : H → List ℕ → List ℕ) where
   -- ---- an event that was asked for
 
   pub foreseen_calm : (old new : Played H) (e : Event) (result : Option Outcome) → Foresees digest old new e result
-      → Calm digest old new (draft (setup_in digest old) old.world e).hashes
+      → Calm digest old new (pending (setup_in digest old) old.world e).hashes
   foreseen_calm old new e result f = record { hears = hears_only old new _ f.hears; calm = f.calm }
 
   pub foreseeing_stopped : (old new : Played H) (e : Event) (halt : Halt) → StoppedForeseeing digest old new e halt
-      → Stopped digest old new (draft (setup_in digest old) old.world e).hashes halt
+      → Stopped digest old new (pending (setup_in digest old) old.world e).hashes halt
   foreseeing_stopped old new e halt h = record {
     setup = h.setup;
     kept = h.kept;
@@ -130,11 +130,11 @@ module _ {H : Type 0} (digest : H → List ℕ → List ℕ) where
         cause = λ none. absurd (none-some kept (sym none ∙ at));
       }
 
-  -- ---- want of memory
+  -- ---- out of memory
 
-  pub wanting : (old new : Played H) (hashed strings : List (List ℕ)) (halt : Halt) → Hears old new hashed → halt ≡ Memory
+  pub outstanding : (old new : Played H) (hashed strings : List (List ℕ)) (halt : Halt) → Hears old new hashed → halt ≡ Memory
       → Stopped digest old new strings halt
-  wanting old new hashed strings halt h e = record {
+  outstanding old new hashed strings halt h e = record {
     setup = h.setup;
     kept = (hears_own old new hashed h).world;
     trace = h.trace;

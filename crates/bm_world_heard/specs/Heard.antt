@@ -15,7 +15,7 @@ pub record Hears {H : Type 0} (old new : Played H) (hashed : List (List ℕ)) : 
   pub trace : new.trace ≡ old.trace
 
 -- these strings were hashed in turn until two different messages had one digest, as the messages then show, or memory was short
-pub record Clashes (hash : List ℕ → List ℕ) (old new strings : List (List ℕ)) (halt : Halt) : Type 0 where
+pub record CollidesHere (hash : List ℕ → List ℕ) (old new strings : List (List ℕ)) (halt : Halt) : Type 0 where
   pub collided : (earlier later : List ℕ) → halt ≡ Collided earlier later → collision hash old strings ≡ Some (earlier, later)
   pub shown : (earlier later : List ℕ) → halt ≡ Collided earlier later → evidence_of hash new ≡ Some (earlier, later)
   pub unguessed : (party secret : List ℕ) → halt ≡ Guessed party secret → ⊥
@@ -25,11 +25,11 @@ pub record Stopped {H : Type 0} (digest : H → List ℕ → List ℕ) (old new 
   pub setup : SameSetup old new
   pub kept : new.world ≡ record old.world { hashed = new.world.hashed }
   pub trace : new.trace ≡ old.trace
-  -- later calls answer the same, unless it was for want of memory
+  -- later calls answer the same, unless it was as memory ran out
   pub halted : (halt ≡ Memory → ⊥) → new.halt ≡ Some halt
   -- the run was halted before by this
   pub again : (earlier : Halt) → old.halt ≡ Some earlier → IsAgain earlier halt
-  pub cause : old.halt ≡ None → Clashes (digest old.hasher) old.world.hashed new.world.hashed strings halt
+  pub cause : old.halt ≡ None → CollidesHere (digest old.hasher) old.world.hashed new.world.hashed strings halt
 
 -- these strings were hashed, and collide with none
 pub record Calm {H : Type 0} (digest : H → List ℕ → List ℕ) (old new : Played H) (strings : List (List ℕ)) : Type 0 where

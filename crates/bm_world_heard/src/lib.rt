@@ -1,3 +1,3 @@
-//! What calls that ask a world, and change nothing in it but what is hashed, leave of it or stop at: audits ask what a ledger would say of
-//! transactions, and what comes next is asked of events. There is no code here, only definitions and lemmas that both stand on.
+//! What asking a world does to it: nothing, except that more strings are hashed. Audits and `bitml next` ask so; there
+//! are only definitions and lemmas here, which both use.
 #![tactic(auto)]

@@ -23,8 +23,10 @@ pub found_account : (hash : List ℕ → List ℕ) (parties : List (List ℕ)) (
 found_account hash [] party a h = cc
 found_account hash (p ∷ ps) party a h = by_name (bytes_eq p party) refl h (found_account hash ps party a)
   where
-    by_name : (b : Bool) → bytes_eq p party ≡ b → cond b (Some (account_of hash p)) (find (λ (x : Account). bytes_eq x.party party) (map (account_of hash) ps)) ≡ Some a
-        → (find (λ (x : Account). bytes_eq x.party party) (map (account_of hash) ps) ≡ Some a → a.pays ≡ pay_to (hash (party_script hash party))) → a.pays ≡ pay_to (hash (party_script hash party))
+    by_name : (b : Bool) → bytes_eq p party ≡ b
+        → cond b (Some (account_of hash p)) (find (λ (x : Account). bytes_eq x.party party) (map (account_of hash) ps)) ≡ Some a
+        → (find (λ (x : Account). bytes_eq x.party party) (map (account_of hash) ps) ≡ Some a → a.pays
+        ≡ pay_to (hash (party_script hash party))) → a.pays ≡ pay_to (hash (party_script hash party))
     by_name true e k later =
         let same : account_of hash p ≡ a = cc in
         ap (λ (x : Account). x.pays) (sym same) ∙ ap (λ q. pay_to (hash (party_script hash q))) (bytes-true p party e)
@@ -48,7 +50,8 @@ joined hash header = append_assoc (opening_labels header.parties) (opening_scrip
 
 pub stops_accounts : (hash : List ℕ → List ℕ) (header : Header) (old new : List (List ℕ)) (e : TrailError) → Stops hash old new (account_strings hash header) e
     → Stops hash old new (opening_strings (opening_of hash header)) e
-stops_accounts hash header old new e h = subst (λ xs. Stops hash old new xs e) (joined hash header) (Stops-first hash old new (account_strings hash header) (coin_strings header hash) e h)
+stops_accounts hash header old new e h =
+    subst (λ xs. Stops hash old new xs e) (joined hash header) (Stops-first hash old new (account_strings hash header) (coin_strings header hash) e h)
 
 pub stops_coins : {H : Type 0} (digest : H → List ℕ → List ℕ) (first here : H) (header : Header) (old mid new : List (List ℕ)) (e : TrailError) → here ≡ first
     → Hashed (digest first) old mid (account_strings (digest first) header) → Stops (digest here) mid new (coin_strings header (digest here)) e

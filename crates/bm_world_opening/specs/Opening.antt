@@ -16,7 +16,7 @@ use Rattle.bm_world_board.specs.declared.board.Board.{Board}
 use Rattle.bm_world_board.specs.declared.accounts.Account.{Account}
 use Rattle.bm_world_board.specs.Accounts.{account_of}
 use Rattle.bm_world_board.specs.Secrets.{secret_strings}
-use Rattle.bm_world_board.specs.Drafts.{setup_of, world_of}
+use Rattle.bm_world_board.specs.Prepares.{setup_of, world_of}
 
 -- a run's setup
 abbrev pub setup_with : (List ℕ → List ℕ) → Header → List Advert → Setup

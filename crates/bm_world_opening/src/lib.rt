@@ -1,4 +1,4 @@
-//! What the parties of a run see before any event.
+//! Opens the world of a run: the header's deposits are on the ledger, and nothing has been said or signed.
 #![tactic(auto)]
 
 mod opening;

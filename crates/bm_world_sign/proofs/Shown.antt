@@ -12,7 +12,7 @@ use Rattle.theory_world.proofs.Later as later
 use Rattle.bm_compile.specs.Numbered.{Numbered, numbered}
 use Rattle.bm_world_board.specs.declared.board.Board.{Board}
 use Rattle.bm_world_board.specs.Compiling.{compiled_at}
-use Rattle.bm_world_board.specs.Drafts.{setup_of, world_of}
+use Rattle.bm_world_board.specs.Prepares.{setup_of, world_of}
 use Rattle.bm_world_board.proofs.Compilations.{compiled_is}
 use Rattle.bm_world_sign.specs.Instances.{AllCompiled, instance_on, Shows}
 

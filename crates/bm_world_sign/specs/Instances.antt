@@ -6,7 +6,7 @@ use Rattle.spec_run.specs.Compiled.{compiled_instance}
 use Rattle.bm_compile.specs.Numbered.{Numbered, numbered}
 use Rattle.bm_match.specs.Matches.{all_compiled}
 use Rattle.bm_world_board.specs.declared.board.Board.{Board}
-use Rattle.bm_world_board.specs.Drafts.{setup_of, world_of}
+use Rattle.bm_world_board.specs.Prepares.{setup_of, world_of}
 
 -- the board has what its contracts are compiled to, where these messages are hashed
 abbrev pub AllCompiled : (List ℕ → List ℕ) → Board → List (List ℕ) → Type 0

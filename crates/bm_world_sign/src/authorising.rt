@@ -7,16 +7,16 @@ ghost use Rattle.spec_compiler.specs.Instance.{branch_label};
 ghost use Rattle.spec_data.specs.Lists.{first_reason};
 ghost use Rattle.spec_run.specs.World.{live_position_at};
 ghost use Rattle.spec_run.specs.Signing as spec;
-ghost use Rattle.bm_world_board.specs.Drafts.{setup_of, world_of, Drafts, Signs};
+ghost use Rattle.bm_world_board.specs.Prepares.{setup_of, world_of, Prepares, Signs};
 ghost use Rattle.bm_world_sign.specs.Instances.{AllCompiled, instance_on};
 ghost use Rattle.bm_world_sign.specs.Authorising.{first_pair};
 
-use crate::booking::draft_pairs;
+use crate::booking::pending_pairs;
 use crate::known::compiled_contract;
 use bm_hash::{Hash32, Trail};
 use bm_honest::{Pair, Prepared, branch_key, known_key};
 use bm_syntax::asks;
-use bm_world_board::{Board, Drafted};
+use bm_world_board::{Board, PendingChange};
 use spec_data::{Name, OutOfMemory};
 use spec_run::Reason;
 use spec_terms::Path;
@@ -131,27 +131,27 @@ fn pair_to_authorise<H: Hash32 + Drop>(
     Ok(pair)
 }
 
-/// The draft of `authorise`, whose pair is then in the book; it hashes nothing.
-pub fn draft_authorise<H: Hash32 + Drop>(
+/// The pending effect of `authorise`, whose pair is then in the book; it hashes nothing.
+pub fn pending_authorise<H: Hash32 + Drop>(
     alloc: Global,
     trail: &Trail<H>,
     board: &mut Board,
     party: &Name,
     output: u32,
     branch: u32,
-) -> Result<Drafted, OutOfMemory>
+) -> Result<PendingChange, OutOfMemory>
     requires clear { evidence_of (H.digest_of trail.now.hasher) trail.now.messages ≡ None }
     requires compiled { AllCompiled (H.digest_of trail.now.hasher) board.old trail.now.messages }
     ensures board { Signs board.old board.new }
     ensures ok { let hash = H.digest_of trail.now.hasher in
         let messages = trail.now.messages in
-        IfOk result (Drafts hash (world_of board.new messages) messages messages
-        (spec.authorise_draft (setup_of hash board.old) (world_of board.old messages) party.now output branch)) }
+        IfOk result (Prepares hash (world_of board.new messages) messages messages
+        (spec.authorise_pending (setup_of hash board.old) (world_of board.old messages) party.now output branch)) }
 {
     if let Some(reason) = authorise_refusal(board, party, output, branch) {
-        return Ok(Drafted::refused(alloc, reason));
+        return Ok(PendingChange::refused(alloc, reason));
     }
     let pair = pair_to_authorise(alloc, trail, board, party, output, branch)?;
-    let drafted = draft_pairs(alloc, board, pair.as_slice())?;
-    Ok(drafted)
+    let pending_change = pending_pairs(alloc, board, pair.as_slice())?;
+    Ok(pending_change)
 }

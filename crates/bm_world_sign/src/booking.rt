@@ -2,21 +2,21 @@
 
 ghost use Rattle.std.specs.Prelude.{◌≡◌, [], ℕ, List, None, IfOk, OnOk};
 ghost use Rattle.bm_hash.specs.Messages.{evidence_of};
-ghost use Rattle.spec_run.specs.Draft.{done};
+ghost use Rattle.spec_run.specs.Pending.{done};
 ghost use Rattle.spec_run.specs.Signing.{signed_all, with_pairs};
-ghost use Rattle.bm_world_board.specs.Drafts.{world_of, Drafts, Signs, IsFront};
+ghost use Rattle.bm_world_board.specs.Prepares.{world_of, Prepares, Signs, IsPrefix};
 
 use bm_book::Book;
 use bm_honest::Pair;
-use bm_world_board::{Board, Change, Drafted};
+use bm_world_board::{Board, Change, PendingChange};
 use spec_data::OutOfMemory;
 use std::alloc::Global;
 
 /// Signs these pairs in turn. After an error some of them may be in the book.
-#[tactic(auto, using(crate::proofs::Fronts::front_longer))]
+#[tactic(auto, using(crate::proofs::Prefixes::prefix_longer))]
 pub fn sign_all(book: &mut Book, pairs: &[Pair]) -> Result<(), OutOfMemory>
     ensures signed { OnOk result (book.new ≡ signed_all book.old pairs.now) }
-    ensures front { IsFront book.old book.new }
+    ensures prefix { IsPrefix book.old book.new }
 {
     for (key, digest) in pairs {
         book.sign(*key, *digest)?;
@@ -24,16 +24,16 @@ pub fn sign_all(book: &mut Book, pairs: &[Pair]) -> Result<(), OutOfMemory>
     Ok(())
 }
 
-/// The draft of an event that signs these pairs; it hashes nothing. The pairs are then in the book.
-pub(crate) fn draft_pairs(
+/// The pending effect of an event that signs these pairs; it hashes nothing. The pairs are then in the book.
+pub(crate) fn pending_pairs(
     alloc: Global,
     board: &mut Board,
     pairs: &[Pair],
-) -> Result<Drafted, OutOfMemory>
+) -> Result<PendingChange, OutOfMemory>
     ensures board { Signs board.old board.new }
     ensures ok { IfOk result (λ d. (hash : List ℕ → List ℕ) (messages : List (List ℕ)) → evidence_of hash messages ≡ None
-        → Drafts hash (world_of board.new messages) messages messages (done (with_pairs (world_of board.old messages) pairs.now) []) d) }
+        → Prepares hash (world_of board.new messages) messages messages (done (with_pairs (world_of board.old messages) pairs.now) []) d) }
 {
     sign_all(&mut board.book, pairs)?;
-    Ok(Drafted::done(alloc, Change::Nothing))
+    Ok(PendingChange::done(alloc, Change::Nothing))
 }

@@ -3,14 +3,14 @@
 ghost use Rattle.std.specs.Prelude.{◌≡◌, None, IfOk};
 ghost use Rattle.bm_hash.specs.Messages.{evidence_of};
 ghost use Rattle.spec_run.specs.Signing as spec;
-ghost use Rattle.bm_world_board.specs.Drafts.{setup_of, world_of, Drafts, Signs};
+ghost use Rattle.bm_world_board.specs.Prepares.{setup_of, world_of, Prepares, Signs};
 ghost use Rattle.bm_world_sign.specs.Instances.{AllCompiled, instance_on};
 
-use crate::booking::draft_pairs;
+use crate::booking::pending_pairs;
 use crate::known::{compiled_contract, refusal};
 use bm_hash::{Hash32, Trail};
 use bm_honest::{Pair, endorsing_pairs};
-use bm_world_board::{Board, Drafted};
+use bm_world_board::{Board, PendingChange};
 use spec_data::{Name, OutOfMemory};
 use std::alloc::Global;
 
@@ -34,26 +34,26 @@ fn pairs_to_endorse<H: Hash32 + Drop>(
     Ok(pairs)
 }
 
-/// The draft of `endorse`, whose pairs are then in the book; it hashes nothing.
-pub fn draft_endorse<H: Hash32 + Drop>(
+/// The pending effect of `endorse`, whose pairs are then in the book; it hashes nothing.
+pub fn pending_endorse<H: Hash32 + Drop>(
     alloc: Global,
     trail: &Trail<H>,
     board: &mut Board,
     contract: u32,
     party: &Name,
-) -> Result<Drafted, OutOfMemory>
+) -> Result<PendingChange, OutOfMemory>
     requires clear { evidence_of (H.digest_of trail.now.hasher) trail.now.messages ≡ None }
     requires compiled { AllCompiled (H.digest_of trail.now.hasher) board.old trail.now.messages }
     ensures board { Signs board.old board.new }
     ensures ok { let hash = H.digest_of trail.now.hasher in
         let messages = trail.now.messages in
-        IfOk result (Drafts hash (world_of board.new messages) messages messages
-        (spec.endorse_draft (setup_of hash board.old) (world_of board.old messages) contract party.now)) }
+        IfOk result (Prepares hash (world_of board.new messages) messages messages
+        (spec.endorse_pending (setup_of hash board.old) (world_of board.old messages) contract party.now)) }
 {
     if let Some(reason) = refusal(board, contract, party) {
-        return Ok(Drafted::refused(alloc, reason));
+        return Ok(PendingChange::refused(alloc, reason));
     }
     let pairs = pairs_to_endorse(alloc, trail, board, contract, party)?;
-    let drafted = draft_pairs(alloc, board, &pairs)?;
-    Ok(drafted)
+    let pending_change = pending_pairs(alloc, board, &pairs)?;
+    Ok(pending_change)
 }

@@ -3,7 +3,7 @@
 ghost use Rattle.std.specs.Prelude.{◌≡◌, ℕ, List, option_map, is_some};
 ghost use Rattle.spec_data.specs.Lists.{first_reason};
 ghost use Rattle.spec_run.specs.Signing.{endorse_row};
-ghost use Rattle.bm_world_board.specs.Drafts.{setup_of, world_of};
+ghost use Rattle.bm_world_board.specs.Prepares.{setup_of, world_of};
 ghost use Rattle.bm_world_sign.specs.Instances.{AllCompiled, instance_on, Shows};
 
 use bm_compile::Compiled;

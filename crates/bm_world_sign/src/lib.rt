@@ -1,4 +1,4 @@
-//! What parties sign for compiled contracts: endorsements, the deposits of an initial transaction, and branches that ask them.
+//! The events `endorse`, `init` and `authorise`: which inputs a party signs, and when an honest one refuses.
 #![tactic(auto)]
 
 mod authorising;
@@ -7,7 +7,7 @@ mod endorsing;
 mod known;
 mod starting;
 
-pub use authorising::draft_authorise;
+pub use authorising::pending_authorise;
 pub use booking::sign_all;
-pub use endorsing::draft_endorse;
-pub use starting::draft_init;
+pub use endorsing::pending_endorse;
+pub use starting::pending_init;

@@ -6,16 +6,16 @@ ghost use Rattle.bm_hash.specs.Messages.{evidence_of};
 ghost use Rattle.spec_data.specs.Lists.{first_reason};
 ghost use Rattle.spec_terms.specs.Precondition.{persistent, owners_of};
 ghost use Rattle.spec_run.specs.Signing as spec;
-ghost use Rattle.bm_world_board.specs.Drafts.{setup_of, world_of, Drafts, Signs};
+ghost use Rattle.bm_world_board.specs.Prepares.{setup_of, world_of, Prepares, Signs};
 ghost use Rattle.bm_world_sign.specs.Instances.{AllCompiled, instance_on};
 ghost use Rattle.bm_world_sign.specs.Starting as starting;
 
-use crate::booking::draft_pairs;
+use crate::booking::pending_pairs;
 use crate::known::{compiled_contract, refusal};
 use bm_hash::{Hash32, Trail};
 use bm_honest::{Gate, Pair, deposit_key, may};
 use bm_wellformed::Checked;
-use bm_world_board::{Board, Drafted};
+use bm_world_board::{Board, PendingChange};
 use spec_data::{Boxed, Name, OutOfMemory};
 use spec_run::Reason;
 use spec_terms::Pre;
@@ -167,27 +167,27 @@ fn pairs_to_start<H: Hash32 + Drop>(
     Ok(pairs)
 }
 
-/// The draft of `init`, whose pairs are then in the book; it hashes nothing.
-pub fn draft_init<H: Hash32 + Drop>(
+/// The pending effect of `init`, whose pairs are then in the book; it hashes nothing.
+pub fn pending_init<H: Hash32 + Drop>(
     alloc: Global,
     trail: &Trail<H>,
     board: &mut Board,
     contract: u32,
     party: &Name,
-) -> Result<Drafted, OutOfMemory>
+) -> Result<PendingChange, OutOfMemory>
     requires clear { evidence_of (H.digest_of trail.now.hasher) trail.now.messages ≡ None }
     requires compiled { AllCompiled (H.digest_of trail.now.hasher) board.old trail.now.messages }
     ensures board { Signs board.old board.new }
     ensures ok { let hash = H.digest_of trail.now.hasher in
         let messages = trail.now.messages in
-        IfOk result (Drafts hash (world_of board.new messages) messages messages
-        (spec.init_draft (setup_of hash board.old) (world_of board.old messages) contract party.now)) }
+        IfOk result (Prepares hash (world_of board.new messages) messages messages
+        (spec.init_pending (setup_of hash board.old) (world_of board.old messages) contract party.now)) }
 {
     let refusal = init_refusal(alloc, trail, board, contract, party)?;
     if let Some(reason) = refusal {
-        return Ok(Drafted::refused(alloc, reason));
+        return Ok(PendingChange::refused(alloc, reason));
     }
     let pairs = pairs_to_start(alloc, trail, board, contract, party)?;
-    let drafted = draft_pairs(alloc, board, &pairs)?;
-    Ok(drafted)
+    let pending_change = pending_pairs(alloc, board, &pairs)?;
+    Ok(pending_change)
 }

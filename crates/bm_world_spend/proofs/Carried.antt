@@ -7,7 +7,7 @@ use Rattle.bm_hash.specs.declared.messages.TrailError.{TrailError}
 use Rattle.bm_hash.specs.Trails.{Stops}
 use Rattle.bm_match.specs.Matches.{all_compiled}
 use Rattle.bm_world_board.specs.declared.board.Board.{Board}
-use Rattle.bm_world_board.specs.Drafts.{setup_of, world_of}
+use Rattle.bm_world_board.specs.Prepares.{setup_of, world_of}
 use Rattle.bm_world_board.specs.Reaching.{reaches_in}
 use Rattle.bm_world_spend.specs.Placed.{IsPlaced}
 use Rattle.bm_world_spend.proofs.Handed.{world_with}
@@ -23,11 +23,14 @@ module _ {H : Type 0} (digest : H → Message → Message) (first here : H) (sam
   returned K k = subst (λ b. K first b) signs (subst (λ h. K h after) same k)
 
   module _ (old mid : List Message) where
-    pub compiled_next : before.compiled ≡ all_compiled (setup_of (digest first) before) (world_of before old) → after.compiled ≡ all_compiled (setup_of (digest here) after) (world_of after mid)
-    compiled_next e = carried (λ h b. b.compiled ≡ all_compiled (setup_of (digest h) b) (world_of b mid)) (compiled_unsigned (setup_of (digest first) before) (world_of before old) pairs mid before.compiled e)
+    pub compiled_next : before.compiled ≡ all_compiled (setup_of (digest first) before) (world_of before old) → after.compiled
+        ≡ all_compiled (setup_of (digest here) after) (world_of after mid)
+    compiled_next e = carried (λ h b. b.compiled ≡ all_compiled (setup_of (digest h) b) (world_of b mid))
+        (compiled_unsigned (setup_of (digest first) before) (world_of before old) pairs mid before.compiled e)
 
     pub placed_next : IsPlaced (setup_of (digest first) before) (world_of before old) → IsPlaced (setup_of (digest here) after) (world_of after mid)
-    placed_next placed = carried (λ h b. IsPlaced (setup_of (digest h) b) (world_of b mid)) (placed_unsigned (setup_of (digest first) before) (world_of before old) pairs mid placed)
+    placed_next placed = carried (λ h b. IsPlaced (setup_of (digest h) b) (world_of b mid))
+        (placed_unsigned (setup_of (digest first) before) (world_of before old) pairs mid placed)
 
     -- where the ledger stopped, it stopped so for the old hasher
     pub stops_returned : (new : List Message) (tx t : Tx) (e : TrailError) → tx ≡ t

@@ -36,7 +36,8 @@ there n (m ∷ ns) h = elim (or_cases (n == m) (list_any (λ k. n == k) ns) h) [
   | inr later ↦ inr (there n ns later)
 ]
 
-pub few_inputs : (s : Setup) (w : World) (party : List ℕ) (inputs : List ℕ) (outputs : List (List ℕ × ℕ)) → first_reason (give_row s w party inputs outputs) ≡ None → length inputs ≤ length w.outputs
+pub few_inputs : (s : Setup) (w : World) (party : List ℕ) (inputs : List ℕ) (outputs : List (List ℕ × ℕ))
+    → first_reason (give_row s w party inputs outputs) ≡ None → length inputs ≤ length w.outputs
 few_inputs s w party inputs outputs passed =
     let row : NoneTrue (give_row s w party inputs outputs) = no_reason-none_true (give_row s w party inputs outputs) passed in
     let live = is_given w inputs row.0 in

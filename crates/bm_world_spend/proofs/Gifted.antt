@@ -41,7 +41,8 @@ pub found_account : (hash : List ℕ → List ℕ) (parties : List (List ℕ)) (
 found_account hash [] party a h = cc
 found_account hash (p ∷ ps) party a h = by_name (bytes_eq p party) refl h (found_account hash ps party a)
   where
-    by_name : (b : Bool) → bytes_eq p party ≡ b → cond b (Some (account_of hash p)) (find (λ (x : Account). bytes_eq x.party party) (map (account_of hash) ps)) ≡ Some a
+    by_name : (b : Bool) → bytes_eq p party ≡ b
+        → cond b (Some (account_of hash p)) (find (λ (x : Account). bytes_eq x.party party) (map (account_of hash) ps)) ≡ Some a
         → (find (λ (x : Account). bytes_eq x.party party) (map (account_of hash) ps) ≡ Some a → a ≡ account_of hash party) → a ≡ account_of hash party
     by_name true e k later =
         let same : account_of hash p ≡ a = cc in
@@ -63,7 +64,8 @@ lies (x ∷ os) k zero o h l none =
     something (k, tx_out x) (sym found ∙ none')
 lies (x ∷ os) k (suc n) o h l none = by_live x.live (lies os (k + 1) n o h l) none
   where
-    by_place : (b : Bool) → (at_place (live_from (k + 1) os) o.outpoint ≡ None → ⊥) → cond b (Some (k, tx_out x)) (at_place (live_from (k + 1) os) o.outpoint) ≡ None → ⊥
+    by_place : (b : Bool) → (at_place (live_from (k + 1) os) o.outpoint ≡ None → ⊥)
+        → cond b (Some (k, tx_out x)) (at_place (live_from (k + 1) os) o.outpoint) ≡ None → ⊥
     by_place true later e = cc
     by_place false later e = later e
 
@@ -117,15 +119,18 @@ module _ (hash : List ℕ → List ℕ) (w : World) (apart : LieApart w) (accoun
       ∙ ap (λ m. account.script ∷ double_strings hash m) message
 
   inputs_strings-given : (ns : List ℕ) → ((n : ℕ) → Is_in n ns → IsGiven w n)
-      → flat_map (input_strings hash (live_from 0 w.outputs) signed) (map (signed_input hash w.outputs account tx) ns) ≡ flat_map (strings_of hash w.outputs tx account.script) ns
+      → flat_map (input_strings hash (live_from 0 w.outputs) signed) (map (signed_input hash w.outputs account tx) ns)
+      ≡ flat_map (strings_of hash w.outputs tx account.script) ns
   inputs_strings-given [] given = refl
   inputs_strings-given (n ∷ ns) given =
-      flat_map-cons (input_strings hash (live_from 0 w.outputs) signed) (signed_input hash w.outputs account tx n) (map (signed_input hash w.outputs account tx) ns)
+      flat_map-cons (input_strings hash (live_from 0 w.outputs) signed) (signed_input hash w.outputs account tx n)
+      (map (signed_input hash w.outputs account tx) ns)
       ∙ (λ i. input_strings-given n (given n (inl refl)) i ++ inputs_strings-given ns (λ m h. given m (inr h)) i)
       ∙ sym (flat_map-cons (strings_of hash w.outputs tx account.script) n ns)
 
   -- the strings of the signed transaction
-  pub strings-given : ((n : ℕ) → Is_in n numbers → IsGiven w n) → transaction_strings hash (live_from 0 w.outputs) signed ≡ gift_strings hash w.outputs account.script tx numbers
+  pub strings-given : ((n : ℕ) → Is_in n numbers → IsGiven w n) → transaction_strings hash (live_from 0 w.outputs) signed
+      ≡ gift_strings hash w.outputs account.script tx numbers
   strings-given given =
       let t : stripped signed ≡ stripped tx = sym (stripped_bare signed) ∙ ap stripped same_bare ∙ stripped_bare tx in
       let p : places_list signed ≡ places_list tx = sym (places-bare signed) ∙ ap places_list same_bare ∙ places-bare tx in
@@ -146,12 +151,15 @@ module _ (s : Setup) (w : World) (party : List ℕ) (inputs : List ℕ) (outputs
   pairs_are = λ i. map (pair_of s.hash w.outputs (giver i) (unsigned i)) inputs
 
   -- after the strings of the gift were hashed
-  pub strings_are : gift_strings s.hash w.outputs account.script bare inputs ≡ gift_strings s.hash w.outputs (party_script s.hash party) (unsigned_gift s w inputs outputs) inputs
+  pub strings_are : gift_strings s.hash w.outputs account.script bare inputs
+      ≡ gift_strings s.hash w.outputs (party_script s.hash party) (unsigned_gift s w inputs outputs) inputs
   strings_are = λ i. gift_strings s.hash w.outputs (giver i).script (unsigned i) inputs
 
 -- they are the strings of the gift, whatever is signed
-pub gift_strings-signed : (s : Setup) (w : World) (party : List ℕ) (inputs : List ℕ) (outputs : List (List ℕ × ℕ)) → LieApart w → first_reason (give_row s w party inputs outputs) ≡ None
-    → gift_strings s.hash w.outputs (party_script s.hash party) (unsigned_gift s w inputs outputs) inputs ≡ ledger_strings s (signed_world s w party inputs outputs) (gift s w party inputs outputs)
+pub gift_strings-signed : (s : Setup) (w : World) (party : List ℕ) (inputs : List ℕ) (outputs : List (List ℕ × ℕ)) → LieApart w
+    → first_reason (give_row s w party inputs outputs) ≡ None
+    → gift_strings s.hash w.outputs (party_script s.hash party) (unsigned_gift s w inputs outputs) inputs
+    ≡ ledger_strings s (signed_world s w party inputs outputs) (gift s w party inputs outputs)
 gift_strings-signed s w party inputs outputs apart passed =
     let row : NoneTrue (give_row s w party inputs outputs) = no_reason-none_true (give_row s w party inputs outputs) passed in
     sym (strings-given s.hash w apart (account_of s.hash party) (unsigned_gift s w inputs outputs) inputs refl (is_given w inputs row.0))

@@ -1,4 +1,4 @@
--- What every run keeps is what the drafts here ask of a world.
+-- What every run keeps is what the pending effects here ask of a world.
 use Rattle.std.proofs.Common.{◌≡◌, ℕ, List, [], ◌++◌, length, map, Option, Some, None, refl, sym, ap}
 use Rattle.spec_data.specs.Lists.{NoneTrue}
 use Rattle.spec_data.specs.Messages.{noted_all}
@@ -16,7 +16,7 @@ use Rattle.spec_run.specs.World.{World}
 use Rattle.spec_run.specs.Conditions.{IsSetup, IsGift}
 use Rattle.spec_run.specs.Giving.{give_row, gift}
 use Rattle.spec_run.specs.Ledger.{live_from, chain_of, verdict_in, strings_of, items_of}
-use Rattle.theory_world.proofs.Hashed.{no_clash}
+use Rattle.theory_world.proofs.Hashed.{no_collision}
 use Rattle.theory_world.proofs.Same.{place-true}
 use Rattle.theory_world.proofs.Ledger.Found.{found}
 use Rattle.theory_world.proofs.Ledger.Accepting.{accepting}
@@ -86,10 +86,13 @@ module _ (s : Setup) (setup : IsSetup s) (g : Configuration) (w : World) (keeps 
           let fit = fits s setup g w keeps in
           let check = checks s setup g w keeps in
           absurd (fresh s setup.hash g heard
-          (signed_kept s setup.hash setup.few_contracts [] g w keeps.book fit check keeps.clear party line.giver inputs outputs line.few_outputs row spent made said calm)
+          (signed_kept s setup.hash setup.few_contracts [] g w keeps.book fit check keeps.clear party line.giver inputs outputs
+          line.few_outputs row spent made said calm)
           (record { initial = fit.initial; branch = fit.branch }) (record { checked = check.checked; committed = check.committed }) hs
-          (no_clash s.hash w.hashed (strings_of s next tx ++ items_of tx) keeps.clear calm) (λ t h. h) tx
+          (no_collision s.hash w.hashed (strings_of s next tx ++ items_of tx) keeps.clear calm) (λ t h. h) tx
           (gift_numbered s setup.hash setup.few_contracts [] g w keeps.book fit check keeps.clear party line.giver inputs outputs line.few_outputs row)
-          spent (accepting s heard tx spent (is s setup.hash setup.few_contracts [] g w keeps.book fit check keeps.clear party line.giver inputs outputs line.few_outputs row spent made said calm))
-          (all s setup.hash setup.few_contracts [] g w keeps.book fit check keeps.clear party line.giver inputs outputs line.few_outputs row spent made said calm)
+          spent (accepting s heard tx spent (is s setup.hash setup.few_contracts [] g w keeps.book fit check keeps.clear party line.giver
+          inputs outputs line.few_outputs row spent made said calm))
+          (all s setup.hash setup.few_contracts [] g w keeps.book fit check keeps.clear party line.giver inputs outputs line.few_outputs row
+          spent made said calm)
           f.number f.output f.there (sym (ap (λ (p : OutPoint). p.txid) same)))

@@ -18,8 +18,8 @@ use Rattle.theory_nodes.specs.Found.{BranchesAreFound, ChoicesAreFound}
 use Rattle.bm_compile.specs.Numbered.{Numbered}
 use Rattle.bm_match.specs.declared.found.Match.{Match}
 use Rattle.bm_match.specs.Matches.{all_compiled, seen_kind, IsActive}
-use Rattle.bm_world_board.specs.declared.drafted.Purpose.{Purpose}
-use Rattle.bm_world_board.specs.Drafts.{with_begun}
+use Rattle.bm_world_board.specs.declared.pending_change.Purpose.{Purpose}
+use Rattle.bm_world_board.specs.Prepares.{with_begun}
 use Rattle.bm_world_board.specs.Reaching.{spent_in, IsPurpose}
 use Rattle.bm_world_coins.specs.Coined.{position_by}
 use Rattle.bm_world_spend.specs.Placed.{IsPosition, IsPlaced}
@@ -64,12 +64,14 @@ module _ (s : Setup) (w : World) (compiled : List (Option Numbered)) (all : comp
 
   -- what a transaction makes
   holds_by : (tx : Tx) (k : ℕ) (spent : List ℕ) (o : Option ℕ)
-      → match_holds compiled w.outputs (seen_kind (kind_by s tx spent o (first_position w spent))) k ≡ new_position s (kind_by s tx spent o (first_position w spent)) k
+      → match_holds compiled w.outputs (seen_kind (kind_by s tx spent o (first_position w spent))) k
+      ≡ new_position s (kind_by s tx spent o (first_position w spent)) k
   holds_by tx k spent (Some contract) = refl
   holds_by tx k [] None = refl
   holds_by tx k (n ∷ ns) None = by_held (live_position_at w n) refl
     where
-      by_held : (o : Option ContractPosition) → live_position_at w n ≡ o → match_holds compiled w.outputs (seen_kind (kind_by s tx (n ∷ ns) None o)) k ≡ new_position s (kind_by s tx (n ∷ ns) None o) k
+      by_held : (o : Option ContractPosition) → live_position_at w n ≡ o
+          → match_holds compiled w.outputs (seen_kind (kind_by s tx (n ∷ ns) None o)) k ≡ new_position s (kind_by s tx (n ∷ ns) None o) k
       by_held None e = refl
       by_held (Some held) e =
           let chosen = chosen_by (branch_count s held) (first_witness tx.inputs) in

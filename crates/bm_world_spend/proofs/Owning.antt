@@ -25,7 +25,8 @@ owner_is s (p ∷ ps) script = ap (λ o. if bytes_eq (paid_to s p) script then P
 module _ (s : Setup) (accounts : List Account) (same : accounts ≡ map (account_of s.hash) s.header.parties) where
   owner_there : (output : Option Output) → by.owner_by accounts output ≡ owner_of s output
   owner_there None = refl
-  owner_there (Some o) = ap (λ owner. if is_deposit (Some o) then owner else Outside) (ap (λ accs. owner_in accs o.script) same ∙ owner_is s s.header.parties o.script)
+  owner_there (Some o) =
+      ap (λ owner. if is_deposit (Some o) then owner else Outside) (ap (λ accs. owner_in accs o.script) same ∙ owner_is s s.header.parties o.script)
 
   -- the first deposit of another owner
   pub foreign_is : (w : World) (party : List ℕ) (ns : List ℕ) → by.first_foreign_by accounts w.outputs party ns ≡ first_foreign s w party ns

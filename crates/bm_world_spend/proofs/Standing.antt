@@ -71,7 +71,8 @@ module _ (s : Setup) (w : World) (book : List Pair) (hashed : List (List ℕ)) w
   compiled_from-same k [] = refl
   compiled_from-same k (a ∷ adverts) = λ i. option_map (numbered s.hash) (compiled_same s w book hashed k i) ∷ compiled_from-same (k + 1) adverts i
 
-  pub compiled_unsigned : (compiled : List (Option Numbered)) → compiled ≡ all_compiled s w → compiled ≡ all_compiled s (record w { book = book; hashed = hashed })
+  pub compiled_unsigned : (compiled : List (Option Numbered)) → compiled ≡ all_compiled s w → compiled
+      ≡ all_compiled s (record w { book = book; hashed = hashed })
   compiled_unsigned compiled e = e ∙ sym (compiled_from-same 0 s.contracts)
 
   pub placed_unsigned : IsPlaced s w → IsPlaced s (record w { book = book; hashed = hashed })

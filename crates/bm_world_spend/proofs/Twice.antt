@@ -15,28 +15,29 @@ there_stays : (hash : Message → Message) (ms : List Message) (m : Message) →
 there_stays hash ms m clear there = rw (clear, there) refl
 
 -- nor are several
-all_stay : (hash : Message → Message) (ms xs : List Message) → evidence_of hash ms ≡ None → ((t : Message) → is_among t xs ≡ true → is_among t ms ≡ true) → noted_all hash ms xs ≡ ms
+all_stay : (hash : Message → Message) (ms xs : List Message) → evidence_of hash ms ≡ None
+    → ((t : Message) → is_among t xs ≡ true → is_among t ms ≡ true) → noted_all hash ms xs ≡ ms
 all_stay hash ms [] clear there = refl
 all_stay hash ms (x ∷ xs) clear there =
     ap (λ l. noted_all hash l xs) (there_stays hash ms x clear (there x (among_head x xs)))
     ∙ all_stay hash ms xs clear (λ t h. there t (among_tail t x xs h))
 
 -- a list that is joined of two is cut somewhere: within the first, or behind it
-pub record Within (xs ys front back : List Message) : Type 0 where
+pub record Within (xs ys prefix back : List Message) : Type 0 where
   pub rest : List Message
-  pub first : xs ≡ front ++ rest
+  pub first : xs ≡ prefix ++ rest
 
-pub record Behind (xs ys front back : List Message) : Type 0 where
+pub record Behind (xs ys prefix back : List Message) : Type 0 where
   pub more : List Message
-  pub first : front ≡ xs ++ more
+  pub first : prefix ≡ xs ++ more
 
-cut_at : (xs ys front back : List Message) → xs ++ ys ≡ front ++ back → Within xs ys front back ⊎ Behind xs ys front back
+cut_at : (xs ys prefix back : List Message) → xs ++ ys ≡ prefix ++ back → Within xs ys prefix back ⊎ Behind xs ys prefix back
 cut_at xs ys [] back e = inl (record { rest = xs; first = refl })
-cut_at [] ys (f ∷ front) back e = inr (record { more = f ∷ front; first = refl })
-cut_at (x ∷ xs) ys (f ∷ front) back e =
+cut_at [] ys (f ∷ prefix) back e = inr (record { more = f ∷ prefix; first = refl })
+cut_at (x ∷ xs) ys (f ∷ prefix) back e =
     let head : x ≡ f = cc in
-    let tail : xs ++ ys ≡ front ++ back = cc in
-    elim (cut_at xs ys front back tail) [
+    let tail : xs ++ ys ≡ prefix ++ back = cc in
+    elim (cut_at xs ys prefix back tail) [
       | inl a ↦ inl (record { rest = a.rest; first = λ i. head i ∷ a.first i })
       | inr b ↦ inr (record { more = b.more; first = λ i. sym head i ∷ b.first i })
     ]
@@ -46,8 +47,8 @@ module _ (hash : Message → Message) (old mid xs : List Message) (clear : evide
   xs_there t h = subst (λ l. is_among t l ≡ true) (sym (hashed_adds hash old mid xs clear first).0) (all_new old xs t h)
 
   -- what was hashed once adds nothing
-  stay : (front : List Message) → ((t : Message) → is_among t front ≡ true → is_among t xs ≡ true) → noted_all hash mid front ≡ mid
-  stay front within = all_stay hash mid front first.clear (λ t h. xs_there t (within t h))
+  stay : (prefix : List Message) → ((t : Message) → is_among t prefix ≡ true → is_among t xs ≡ true) → noted_all hash mid prefix ≡ mid
+  stay prefix within = all_stay hash mid prefix first.clear (λ t h. xs_there t (within t h))
 
   pub again : (ys : List Message) → noted_all hash mid (xs ++ ys) ≡ noted_all hash old (xs ++ ys)
   again ys =
@@ -71,12 +72,13 @@ module _ (hash : Message → Message) (old mid xs : List Message) (clear : evide
     memory = λ is. let h = s.memory is in by_cut h.0 h.1 h.2 h.3 h.4 (cut_at xs ys h.0 h.1 h.2);
   }
     where
-      by_cut : (front back : List Message) → xs ++ ys ≡ front ++ back → new ≡ noted_all hash mid front → evidence_of hash new ≡ None → Within xs ys front back ⊎ Behind xs ys front back
+      by_cut : (prefix back : List Message) → xs ++ ys ≡ prefix ++ back → new ≡ noted_all hash mid prefix → evidence_of hash new ≡ None
+          → Within xs ys prefix back ⊎ Behind xs ys prefix back
           → (f : List Message) × (b : List Message) × (xs ++ ys ≡ f ++ b) × (new ≡ noted_all hash old f) × (evidence_of hash new ≡ None)
-      by_cut front back cut is calm (inl a) =
-          (xs, ys, refl, is ∙ stay front (λ t h. subst (λ l. is_among t l ≡ true) (sym a.first) (among_left t front a.rest h)) ∙ first.all, calm)
-      by_cut front back cut is calm (inr b) =
-          (front, back, cut, is ∙ ap (noted_all hash mid) b.first ∙ again b.more ∙ ap (noted_all hash old) (sym b.first), calm)
+      by_cut prefix back cut is calm (inl a) =
+          (xs, ys, refl, is ∙ stay prefix (λ t h. subst (λ l. is_among t l ≡ true) (sym a.first) (among_left t prefix a.rest h)) ∙ first.all, calm)
+      by_cut prefix back cut is calm (inr b) =
+          (prefix, back, cut, is ∙ ap (noted_all hash mid) b.first ∙ again b.more ∙ ap (noted_all hash old) (sym b.first), calm)
 
 -- the same of strings that are the same
 pub stops_same : (hash : Message → Message) (old new xs ys : List Message) (e : TrailError) → xs ≡ ys → Stops hash old new xs e → Stops hash old new ys e

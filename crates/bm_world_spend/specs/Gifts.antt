@@ -13,7 +13,7 @@ use Rattle.spec_run.specs.World.{Output, World, is_deposit}
 use Rattle.spec_run.specs.Owners.{deposit_value}
 use Rattle.spec_run.specs.Compiled.{outpoint_of}
 use Rattle.spec_run.specs.Setup.{Setup}
-use Rattle.spec_run.specs.Draft.{Draft}
+use Rattle.spec_run.specs.Pending.{Pending}
 use Rattle.spec_run.specs.Ledger.{reaches}
 use Rattle.spec_run.specs.Signing.{with_pairs}
 use Rattle.spec_run.specs.Giving.{give_row, given_pairs, gift}
@@ -41,8 +41,8 @@ abbrev pub signed_world : Setup → World → List ℕ → List ℕ → List (Li
 signed_world s w party inputs outputs = with_pairs w (given_pairs s w party inputs outputs)
 
 -- what it comes to
-abbrev pub gift_draft : Setup → World → List ℕ → List ℕ → List (List ℕ × ℕ) → Draft
-gift_draft s w party inputs outputs = reaches s w (signed_world s w party inputs outputs) (gift s w party inputs outputs)
+abbrev pub gift_pending : Setup → World → List ℕ → List ℕ → List (List ℕ × ℕ) → Pending
+gift_pending s w party inputs outputs = reaches s w (signed_world s w party inputs outputs) (gift s w party inputs outputs)
 
 -- where it isn't refused, and is accepted, and its strings don't collide, no live output has its id
 abbrev pub IsFreshGift : Setup → World → List ℕ → List ℕ → List (List ℕ × ℕ) → Type 0

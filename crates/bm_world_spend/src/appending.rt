@@ -10,26 +10,26 @@ ghost use Rattle.spec_run.specs.Conditions.{IsPiece};
 ghost use Rattle.spec_run.specs.Event.{append_read};
 ghost use Rattle.theory_world.specs.Transactions.{IsNumbered};
 ghost use Rattle.bm_match.specs.Matches.{all_compiled};
-ghost use Rattle.bm_world_board.specs.Drafts.{setup_of, world_of, Drafts};
+ghost use Rattle.bm_world_board.specs.Prepares.{setup_of, world_of, Prepares};
 ghost use Rattle.bm_world_board.specs.Reaching.{IsFresh, reaches_in};
 ghost use Rattle.bm_world_spend.specs.Placed.{IsPlaced};
 
 use crate::purposes::purpose;
 use bm_hash::{Hash32, Trail, TrailError};
 use bm_tx::{TxError, decode};
-use bm_world_board::{Board, Drafted, reach};
+use bm_world_board::{Board, PendingChange, reach};
 use spec_bitcoin::Tx;
 use spec_run::Reason;
 use std::alloc::Global;
 
-/// The draft of a transaction that reaches the ledger, where its event signs nothing.
+/// The pending effect of a transaction that reaches the ledger, where its event signs nothing.
 #[tactic(auto, using(bm_hash::proofs::HashesLemmas::stops_early))]
-pub fn draft_reaching<H: Hash32 + Drop>(
+pub fn pending_reaching<H: Hash32 + Drop>(
     alloc: Global,
     trail: &mut Trail<H>,
     board: &Board,
     tx: Tx,
-) -> Result<Drafted, TrailError>
+) -> Result<PendingChange, TrailError>
     requires inputs { length tx.inputs < 2 ^ 32 }
     requires room { length board.now.coins.outputs + length tx.outputs < 2 ^ 32 }
     requires clear { evidence_of (H.digest_of trail.old.hasher) trail.old.messages ≡ None }
@@ -38,21 +38,21 @@ pub fn draft_reaching<H: Hash32 + Drop>(
     requires placed { IsPlaced (setup_of (H.digest_of trail.old.hasher) board.now) (world_of board.now trail.old.messages) }
     requires fresh { IsFresh (setup_of (H.digest_of trail.old.hasher) board.now) (world_of board.now trail.old.messages) tx }
     ensures hasher { trail.new.hasher ≡ trail.old.hasher }
-    ensures ok { IfOk result (Drafts (H.digest_of trail.old.hasher) (world_of board.now trail.old.messages) trail.old.messages trail.new.messages (reaches_in (setup_of (H.digest_of trail.old.hasher) board.now) (world_of board.now trail.old.messages) tx)) }
+    ensures ok { IfOk result (Prepares (H.digest_of trail.old.hasher) (world_of board.now trail.old.messages) trail.old.messages trail.new.messages (reaches_in (setup_of (H.digest_of trail.old.hasher) board.now) (world_of board.now trail.old.messages) tx)) }
     ensures err { IfErr result (StopsAlong H.digest_of trail.old trail.new ((reaches_in (setup_of (H.digest_of trail.old.hasher) board.now) (world_of board.now trail.old.messages) tx).hashes)) }
 {
     let purpose = purpose(alloc, board, &tx)?;
-    let drafted = reach(alloc, trail, board, tx, purpose)?;
-    Ok(drafted)
+    let pending_change = reach(alloc, trail, board, tx, purpose)?;
+    Ok(pending_change)
 }
 
-/// The draft of `append`.
-pub fn draft_append<H: Hash32 + Drop>(
+/// The pending effect of `append`.
+pub fn pending_append<H: Hash32 + Drop>(
     alloc: Global,
     trail: &mut Trail<H>,
     board: &Board,
     bytes: &[u8],
-) -> Result<Drafted, TrailError>
+) -> Result<PendingChange, TrailError>
     requires piece { IsPiece bytes.now }
     requires room { length board.now.coins.outputs + most_piece_bytes < 2 ^ 32 }
     requires clear { evidence_of (H.digest_of trail.old.hasher) trail.old.messages ≡ None }
@@ -61,15 +61,15 @@ pub fn draft_append<H: Hash32 + Drop>(
     requires placed { IsPlaced (setup_of (H.digest_of trail.old.hasher) board.now) (world_of board.now trail.old.messages) }
     requires fresh { (tx : Transaction) → IsNumbered tx → IsFresh (setup_of (H.digest_of trail.old.hasher) board.now) (world_of board.now trail.old.messages) tx }
     ensures hasher { trail.new.hasher ≡ trail.old.hasher }
-    ensures ok { IfOk result (Drafts (H.digest_of trail.old.hasher) (world_of board.now trail.old.messages) trail.old.messages trail.new.messages (append_read (setup_of (H.digest_of trail.old.hasher) board.now) (world_of board.now trail.old.messages) (transaction_of bytes.now))) }
+    ensures ok { IfOk result (Prepares (H.digest_of trail.old.hasher) (world_of board.now trail.old.messages) trail.old.messages trail.new.messages (append_read (setup_of (H.digest_of trail.old.hasher) board.now) (world_of board.now trail.old.messages) (transaction_of bytes.now))) }
     ensures err { IfErr result (StopsAlong H.digest_of trail.old trail.new ((append_read (setup_of (H.digest_of trail.old.hasher) board.now) (world_of board.now trail.old.messages) (transaction_of bytes.now)).hashes)) }
 {
     match decode(alloc, bytes) {
         Ok(tx) => {
-            let drafted = draft_reaching(alloc, trail, board, tx)?;
-            Ok(drafted)
+            let pending_change = pending_reaching(alloc, trail, board, tx)?;
+            Ok(pending_change)
         }
-        Err(TxError::BadTx(place)) => Ok(Drafted::refused(alloc, Reason::BadTx(place))),
+        Err(TxError::BadTx(place)) => Ok(PendingChange::refused(alloc, Reason::BadTx(place))),
         Err(TxError::Memory) => Err(TrailError::Memory),
     }
 }

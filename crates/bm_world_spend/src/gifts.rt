@@ -9,7 +9,7 @@ ghost use Rattle.spec_run.specs.Setup.{Setup};
 ghost use Rattle.spec_run.specs.Signing.{signed, signed_all};
 ghost use Rattle.spec_run.specs.Giving.{given_output};
 ghost use Rattle.bm_world_board.specs.Accounts.{account_of};
-ghost use Rattle.bm_world_board.specs.Drafts.{IsFront};
+ghost use Rattle.bm_world_board.specs.Prepares.{IsPrefix};
 ghost use Rattle.bm_world_spend.specs.Gifts as by;
 
 use crate::refusing::value_at;
@@ -208,7 +208,7 @@ fn signed_inputs<H: Hash32 + Drop>(
     requires clear { evidence_of (H.digest_of trail.old.hasher) trail.old.messages ≡ None }
     ensures inputs { IfOk result (λ is. is ≡ map (by.signed_input (H.digest_of trail.old.hasher) coins.now.outputs account.now tx.now) numbers.now) }
     ensures book { OnOk result (book.new ≡ signed_all book.old (map (by.pair_of (H.digest_of trail.old.hasher) coins.now.outputs account.now tx.now) numbers.now)) }
-    ensures front { IsFront book.old book.new }
+    ensures prefix { IsPrefix book.old book.new }
     ensures trail { Hashes H.digest_of trail.old trail.new (flat_map (by.strings_of (H.digest_of trail.old.hasher) coins.now.outputs tx.now account.now.script) numbers.now) result }
 {
     let mut inputs = Seq::with_capacity(alloc, numbers.len())?;
@@ -240,7 +240,7 @@ pub(crate) fn signed_gift<H: Hash32 + Drop>(
 ) -> Result<Tx, TrailError>
     ensures tx { IfOk result (λ tx. tx ≡ by.signed_tx (H.digest_of trail.old.hasher) coins.now.outputs account.now bare numbers.now) }
     ensures book { OnOk result (book.new ≡ signed_all book.old (map (by.pair_of (H.digest_of trail.old.hasher) coins.now.outputs account.now bare) numbers.now)) }
-    ensures front { IsFront book.old book.new }
+    ensures prefix { IsPrefix book.old book.new }
     ensures trail { Hashes H.digest_of trail.old trail.new (by.gift_strings (H.digest_of trail.old.hasher) coins.now.outputs account.now.script bare numbers.now) result }
 {
     txid(alloc, trail, &bare)?;

@@ -11,16 +11,16 @@ ghost use Rattle.spec_run.specs.Signing.{signed_all};
 ghost use Rattle.spec_run.specs.Giving as spec;
 ghost use Rattle.bm_match.specs.Matches.{all_compiled};
 ghost use Rattle.bm_world_board.specs.Accounts.{account_of};
-ghost use Rattle.bm_world_board.specs.Drafts.{setup_of, world_of, tx_in, Drafts, Signs, IsFront};
+ghost use Rattle.bm_world_board.specs.Prepares.{setup_of, world_of, tx_in, Prepares, Signs, IsPrefix};
 ghost use Rattle.bm_world_spend.specs.Placed.{IsPlaced};
-ghost use Rattle.bm_world_spend.specs.Gifts.{LieApart, IsFreshGift, gift_draft, gift_strings};
+ghost use Rattle.bm_world_spend.specs.Gifts.{LieApart, IsFreshGift, gift_pending, gift_strings};
 
-use crate::appending::draft_reaching;
+use crate::appending::pending_reaching;
 use crate::gifts::{bare_gift, signed_gift};
 use crate::refusing::give_refusal;
 use bm_book::Book;
 use bm_hash::{Hash32, Trail, TrailError};
-use bm_world_board::{Account, Board, Change, Drafted, account_at};
+use bm_world_board::{Account, Board, Change, PendingChange, account_at};
 use spec_bitcoin::Tx;
 use spec_data::{Name, OutOfMemory};
 use std::alloc::{AllocError, Global};
@@ -72,34 +72,34 @@ fn sign_gift<H: Hash32 + Drop>(
 }
 
 // Whether a transaction is appended.
-fn appends(drafted: &Drafted) -> bool
-    ensures { result ≡ is_some (tx_in drafted.now.change) }
+fn appends(pending_change: &PendingChange) -> bool
+    ensures { result ≡ is_some (tx_in pending_change.now.change) }
 {
-    match &drafted.change {
+    match &pending_change.change {
         Change::Append(_) => true,
         _ => false,
     }
 }
 
 // Leaves the first `count` pairs, unless a transaction is appended.
-fn keep_pairs(book: &mut Book, count: usize, drafted: &Drafted)
+fn keep_pairs(book: &mut Book, count: usize, pending_change: &PendingChange)
     requires { count ≤ length book.old }
-    ensures { book.new ≡ (if is_some (tx_in drafted.now.change) then book.old else take count book.old) }
+    ensures { book.new ≡ (if is_some (tx_in pending_change.now.change) then book.old else take count book.old) }
 {
-    if !appends(drafted) {
+    if !appends(pending_change) {
         book.cut(count);
     }
 }
 
-// The draft of a gift that isn't refused before it is signed. Where the ledger refuses it, the book is as before.
-fn draft_gift<H: Hash32 + Drop>(
+// The pending effect of a gift that isn't refused before it is signed. Where the ledger refuses it, the book is as before.
+fn pending_gift<H: Hash32 + Drop>(
     alloc: Global,
     trail: &mut Trail<H>,
     board: &mut Board,
     party: &Name,
     inputs: &[u32],
     outputs: &[(Name, u64)],
-) -> Result<Drafted, TrailError>
+) -> Result<PendingChange, TrailError>
     requires few { length inputs.now < 2 ^ 32 }
     requires room { length board.old.coins.outputs + length outputs.now < 2 ^ 32 }
     requires clear { evidence_of (H.digest_of trail.old.hasher) trail.old.messages ≡ None }
@@ -112,25 +112,25 @@ fn draft_gift<H: Hash32 + Drop>(
     requires fresh { IsFreshGift (setup_of (H.digest_of trail.old.hasher) board.old) (world_of board.old trail.old.messages) party.now inputs.now outputs.now }
     ensures hasher { trail.new.hasher ≡ trail.old.hasher }
     ensures board { Signs board.old board.new }
-    ensures ok { IfOk result (Drafts (H.digest_of trail.old.hasher) (world_of board.new trail.old.messages) trail.old.messages trail.new.messages (gift_draft (setup_of (H.digest_of trail.old.hasher) board.old) (world_of board.old trail.old.messages) party.now inputs.now outputs.now)) }
-    ensures err { IfErr result (StopsAlong H.digest_of trail.old trail.new ((gift_draft (setup_of (H.digest_of trail.old.hasher) board.old) (world_of board.old trail.old.messages) party.now inputs.now outputs.now).hashes)) }
+    ensures ok { IfOk result (Prepares (H.digest_of trail.old.hasher) (world_of board.new trail.old.messages) trail.old.messages trail.new.messages (gift_pending (setup_of (H.digest_of trail.old.hasher) board.old) (world_of board.old trail.old.messages) party.now inputs.now outputs.now)) }
+    ensures err { IfErr result (StopsAlong H.digest_of trail.old trail.new ((gift_pending (setup_of (H.digest_of trail.old.hasher) board.old) (world_of board.old trail.old.messages) party.now inputs.now outputs.now).hashes)) }
 {
     let count = board.book.count();
     let tx = sign_gift(alloc, trail, board, party, inputs, outputs)?;
-    let drafted = draft_reaching(alloc, trail, board, tx)?;
-    keep_pairs(&mut board.book, count, &drafted);
-    Ok(drafted)
+    let pending_change = pending_reaching(alloc, trail, board, tx)?;
+    keep_pairs(&mut board.book, count, &pending_change);
+    Ok(pending_change)
 }
 
-/// The draft of `give`, whose pairs are then in the book.
-pub fn draft_give<H: Hash32 + Drop>(
+/// The pending effect of `give`, whose pairs are then in the book.
+pub fn pending_give<H: Hash32 + Drop>(
     alloc: Global,
     trail: &mut Trail<H>,
     board: &mut Board,
     party: &Name,
     inputs: &[u32],
     outputs: &[(Name, u64)],
-) -> Result<Drafted, TrailError>
+) -> Result<PendingChange, TrailError>
     requires room { length board.old.coins.outputs + length outputs.now < 2 ^ 32 }
     requires clear { evidence_of (H.digest_of trail.old.hasher) trail.old.messages ≡ None }
     requires contracts { length board.old.contracts ≤ most_contracts }
@@ -141,12 +141,12 @@ pub fn draft_give<H: Hash32 + Drop>(
     requires fresh { IsFreshGift (setup_of (H.digest_of trail.old.hasher) board.old) (world_of board.old trail.old.messages) party.now inputs.now outputs.now }
     ensures hasher { trail.new.hasher ≡ trail.old.hasher }
     ensures board { Signs board.old board.new }
-    ensures ok { IfOk result (Drafts (H.digest_of trail.old.hasher) (world_of board.new trail.old.messages) trail.old.messages trail.new.messages (spec.give_draft (setup_of (H.digest_of trail.old.hasher) board.old) (world_of board.old trail.old.messages) party.now inputs.now outputs.now)) }
-    ensures err { IfErr result (StopsAlong H.digest_of trail.old trail.new ((spec.give_draft (setup_of (H.digest_of trail.old.hasher) board.old) (world_of board.old trail.old.messages) party.now inputs.now outputs.now).hashes)) }
+    ensures ok { IfOk result (Prepares (H.digest_of trail.old.hasher) (world_of board.new trail.old.messages) trail.old.messages trail.new.messages (spec.give_pending (setup_of (H.digest_of trail.old.hasher) board.old) (world_of board.old trail.old.messages) party.now inputs.now outputs.now)) }
+    ensures err { IfErr result (StopsAlong H.digest_of trail.old trail.new ((spec.give_pending (setup_of (H.digest_of trail.old.hasher) board.old) (world_of board.old trail.old.messages) party.now inputs.now outputs.now).hashes)) }
 {
     if let Some(reason) = give_refusal(alloc, board, party, inputs, outputs) {
-        return Ok(Drafted::refused(alloc, reason));
+        return Ok(PendingChange::refused(alloc, reason));
     }
-    let drafted = draft_gift(alloc, trail, board, party, inputs, outputs)?;
-    Ok(drafted)
+    let pending_change = pending_gift(alloc, trail, board, party, inputs, outputs)?;
+    Ok(pending_change)
 }

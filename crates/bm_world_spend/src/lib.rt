@@ -1,4 +1,5 @@
-//! Transactions that spend: what they are to the contracts, and what `append` and `give` are to come to.
+//! The events `append` and `give`: a raw transaction, or a gift of deposits, is taken for what it is to the contracts
+//! and handed to the ledger.
 #![tactic(auto)]
 
 mod appending;
@@ -7,6 +8,6 @@ mod giving;
 mod purposes;
 mod refusing;
 
-pub use appending::{draft_append, draft_reaching};
-pub use giving::draft_give;
+pub use appending::{pending_append, pending_reaching};
+pub use giving::pending_give;
 pub use purposes::{choice_of, purpose};

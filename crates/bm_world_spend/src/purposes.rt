@@ -9,7 +9,7 @@ ghost use Rattle.bm_arena.specs.NodeView.{node_view, deed_view};
 ghost use Rattle.bm_match.specs.Matches.{all_compiled};
 ghost use Rattle.bm_world_coins.specs.Coined.{position_by};
 ghost use Rattle.bm_world_board.specs.Compiling.{compiled_at};
-ghost use Rattle.bm_world_board.specs.Drafts.{setup_of, world_of};
+ghost use Rattle.bm_world_board.specs.Prepares.{setup_of, world_of};
 ghost use Rattle.bm_world_board.specs.Reaching.{IsPurpose};
 ghost use Rattle.bm_world_spend.specs.Placed.{IsPlaced};
 ghost use Rattle.bm_world_spend.specs.Purposes as by;

@@ -9,7 +9,7 @@ ghost use Rattle.spec_run.specs.World.{is_deposit};
 ghost use Rattle.spec_run.specs.Owners as owners;
 ghost use Rattle.spec_run.specs.Giving as spec;
 ghost use Rattle.bm_world_board.specs.Accounts.{account_of};
-ghost use Rattle.bm_world_board.specs.Drafts.{setup_of, world_of};
+ghost use Rattle.bm_world_board.specs.Prepares.{setup_of, world_of};
 ghost use Rattle.bm_world_spend.specs.Gifts as by;
 
 use bm_repeats::are_distinct;

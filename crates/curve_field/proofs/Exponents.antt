@@ -7,10 +7,16 @@ pub power_none : (m a k : ℕ) → power 0 m a k ≡ 1 % m
 unfolding power
 power_none m a k = refl
 
-pub inverse_exponent_is : value (record { w0 = 0xFFFFFFFEFFFFFC2D; w1 = 0xFFFFFFFFFFFFFFFF; w2 = 0xFFFFFFFFFFFFFFFF; w3 = 0xFFFFFFFFFFFFFFFF }) ≡ field_prime - 2
+pub inverse_exponent_is : value (record {
+  w0 = 0xFFFFFFFEFFFFFC2D;
+  w1 = 0xFFFFFFFFFFFFFFFF;
+  w2 = 0xFFFFFFFFFFFFFFFF;
+  w3 = 0xFFFFFFFFFFFFFFFF;
+}) ≡ field_prime - 2
 unfolding value
 inverse_exponent_is = refl
 
-pub root_exponent_is : value (record { w0 = 0xFFFFFFFFBFFFFF0C; w1 = 0xFFFFFFFFFFFFFFFF; w2 = 0xFFFFFFFFFFFFFFFF; w3 = 0x3FFFFFFFFFFFFFFF }) ≡ (field_prime + 1) / 4
+pub root_exponent_is : value (record { w0 = 0xFFFFFFFFBFFFFF0C; w1 = 0xFFFFFFFFFFFFFFFF; w2 = 0xFFFFFFFFFFFFFFFF; w3 = 0x3FFFFFFFFFFFFFFF })
+    ≡ (field_prime + 1) / 4
 unfolding value
 root_exponent_is = refl

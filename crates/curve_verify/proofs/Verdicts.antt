@@ -77,7 +77,8 @@ sign_nothing None z = refl
 pub unspelled_fails : (key digest signature : List ℕ) → is_spelled signature ≡ false → is_signature key digest signature ≡ false
 unfolding is_signature
 unspelled_fails key digest signature e =
-    ap (λ m. sign (point key) (number_of digest) m) (nothing (is_spelled signature) (record { r = number_of (r_bytes signature); s = number_of (s_bytes signature) }) e)
+    ap (λ m. sign (point key) (number_of digest) m)
+    (nothing (is_spelled signature) (record { r = number_of (r_bytes signature); s = number_of (s_bytes signature) }) e)
     ∙ sign_nothing (point key) (number_of digest)
 
 pub keyless_fails : (key digest signature : List ℕ) → point key ≡ None → is_signature key digest signature ≡ false

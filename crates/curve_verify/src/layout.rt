@@ -15,7 +15,7 @@ fn byte_at(bytes: &[u8], place: usize) -> u8
 }
 
 // The first bytes, this many or all.
-fn front(bytes: &[u8], count: usize) -> &[u8]
+fn prefix(bytes: &[u8], count: usize) -> &[u8]
     ensures { result.now ≡ take count bytes.now }
 {
     &bytes[..count.min(bytes.len())]
@@ -32,7 +32,7 @@ fn behind(bytes: &[u8], count: usize) -> &[u8]
 pub(crate) fn r_bytes(signature: &[u8]) -> &[u8]
     ensures { result.now ≡ spec.r_bytes signature.now }
 {
-    front(behind(signature, 4), byte_at(signature, 3) as usize)
+    prefix(behind(signature, 4), byte_at(signature, 3) as usize)
 }
 
 /// The S that a signature's counts delimit.
@@ -41,7 +41,7 @@ pub(crate) fn s_bytes(signature: &[u8]) -> &[u8]
 {
     let count = r_bytes(signature).len();
     let rest = behind(signature, count + 5);
-    front(behind(signature, count + 6), byte_at(rest, 0) as usize)
+    prefix(behind(signature, count + 6), byte_at(rest, 0) as usize)
 }
 
 // What stands behind a piece, where bytes begin with it.

@@ -1,5 +1,5 @@
-//! Addresses of witness outputs as text, by BIP 173 and BIP 350. Each that is written is read back as its script, so is the same in capitals,
-//! and nothing else is read. Words, scripts and human-readable parts are bytes, and want of memory is the one error.
+//! Bitcoin addresses (BIP 173, BIP 350): the address of a witness output's script, and the script that an address is
+//! of. No program calls it yet.
 #![tactic(auto)]
 
 mod checksum;

@@ -24,8 +24,8 @@ fn read_lines(alloc: Global, text: &[u8]) -> Result<Reading, OutOfMemory>
     let mut line = 1u32;
     let mut height = 0u32;
     while !rest.is_empty() {
-        let (front, more) = first_line(rest);
-        match line_says(alloc, height, front)? {
+        let (prefix, more) = first_line(rest);
+        match line_says(alloc, height, prefix)? {
             Line::Empty => {}
             Line::Bad(reason) => {
                 return Ok(Reading {

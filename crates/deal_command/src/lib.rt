@@ -1,4 +1,4 @@
-//! A call of the program for deals: the command that its words are, and the files that it reads.
+//! The words of `bitml deal`: which command they are, and which files it reads.
 #![tactic(auto)]
 
 mod command;

@@ -32,15 +32,15 @@ nothing x = x
 abbrev bare : Advert → Instance
 bare advert = record { contract = deal_contract; advert = advert; bound = []; hashes = [] }
 
-fronts : (es : List (List PathStep × Unsigned))
+prefixes : (es : List (List PathStep × Unsigned))
     → map (λ (p : List PathStep × Prepared). p.0) (map (λ (p : List PathStep × Unsigned). (p.0, prepared nothing p.1)) es)
     ≡ map (λ (p : List PathStep × Unsigned). p.0) es
-fronts [] = refl
-fronts (e ∷ es) = ap (λ (ps : List (List PathStep)). e.0 ∷ ps) (fronts es)
+prefixes [] = refl
+prefixes (e ∷ es) = ap (λ (ps : List (List PathStep)). e.0 ∷ ps) (prefixes es)
 
 paths_of_nodes : (advert : Advert) → node_paths (nodes_of advert.root) ≡ branch_paths advert.root
 paths_of_nodes advert =
-    paths_listed nothing by_plan (bare advert) ∙ sym (fronts (path_transactions nothing by_plan (bare advert)))
+    paths_listed nothing by_plan (bare advert) ∙ sym (prefixes (path_transactions nothing by_plan (bare advert)))
     ∙ paths_in_order nothing by_plan (bare advert)
 
 by_paths : (parties : List (List ℕ)) (ns : List Node) → flat_map (node_needs parties) ns ≡ flat_map (path_needs parties) (node_paths ns)
@@ -83,7 +83,7 @@ pub needed_parts : (advert : Advert)
     ≡ map party_need (participants advert) ++ (flat_map (path_needs (participants advert)) (branch_paths advert.root)
     ++ (map needs.Deposit (names_of (deposits advert.pre)) ++ map needs.Hash (names_of (secrets advert.pre))))
 needed_parts advert =
-    ap (λ (front : List Needed). front ++ (map needs.Deposit (needed_deposits advert) ++ map needs.Hash (needed_secrets advert)))
+    ap (λ (prefix : List Needed). prefix ++ (map needs.Deposit (needed_deposits advert) ++ map needs.Hash (needed_secrets advert)))
     (of_labels advert)
     ∙ append_assoc (map party_need (participants advert)) (flat_map (path_needs (participants advert)) (branch_paths advert.root))
     (map needs.Deposit (names_of (deposits advert.pre)) ++ map needs.Hash (names_of (secrets advert.pre)))

@@ -34,8 +34,8 @@ given_to_all entries (what ∷ needs) = joined (given_to entries what) (given_to
 
 -- a deal behind what came before, unless something is missing
 abbrev pub onto_deal : Deal → Result Deal DealFault → Result Deal DealFault
-onto_deal front (Ok deal) = Ok (joined front deal)
-onto_deal front (Err fault) = Err fault
+onto_deal prefix (Ok deal) = Ok (joined prefix deal)
+onto_deal prefix (Err fault) = Err fault
 
 abbrev pub if_given : Needed → Deal → Option Value → Result Deal DealFault → Result Deal DealFault
 if_given what deal None later = Err (faults.Missing what)

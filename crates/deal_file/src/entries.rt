@@ -100,7 +100,7 @@ impl Entries {
         line_of(self.worth.find(key))
     }
 
-    /// Adds an entry, which is found by these keys. For want of memory only its need may be added.
+    /// Adds an entry, which is found by these keys. As memory ran out only its need may be added.
     pub(crate) fn push(
         &mut self,
         entry: Entry,

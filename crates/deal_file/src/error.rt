@@ -11,7 +11,7 @@ use std::alloc::{AllocError, AllocFailed};
 pub enum DealError {
     /// It is refused for this.
     Refused(DealFault),
-    /// Want of memory.
+    /// Out of memory.
     Memory,
 }
 

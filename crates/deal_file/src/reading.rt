@@ -71,8 +71,8 @@ fn read_entries(
     let mut rest = text;
     let mut line = 1u32;
     while !rest.is_empty() {
-        let (front, more) = first_line(rest);
-        if let Err(error) = take_line(alloc, checked, needs, &mut entries, line, front) {
+        let (prefix, more) = first_line(rest);
+        if let Err(error) = take_line(alloc, checked, needs, &mut entries, line, prefix) {
             return Err(at_line(error, line));
         }
         rest = more;

@@ -25,8 +25,10 @@ drop-next zero xs = refl
 drop-next (suc k) [] = let z : suc k + 1 ≡ suc (k + 1) = omega arith in rw z refl
 drop-next (suc k) (x ∷ xs) = let z : suc k + 1 ≡ suc (k + 1) = omega arith in rw z (drop-next k xs)
 
-pub witnessed_step : (inputs : List TxIn) (witnesses : List (List (List ℕ))) (k : ℕ) (input : TxIn) (now new all : List TxIn) → k < length inputs → input ≡ get_or inputs k input
-    → new ≡ now ++ input_with input (slice_get witnesses k) ∷ [] → now ++ witnessed (drop k inputs) (drop k witnesses) ≡ all → new ++ witnessed (drop (k + 1) inputs) (drop (k + 1) witnesses) ≡ all
+pub witnessed_step : (inputs : List TxIn) (witnesses : List (List (List ℕ))) (k : ℕ) (input : TxIn) (now new all : List TxIn)
+    → k < length inputs → input ≡ get_or inputs k input
+    → new ≡ now ++ input_with input (slice_get witnesses k) ∷ [] → now ++ witnessed (drop k inputs) (drop k witnesses) ≡ all → new
+    ++ witnessed (drop (k + 1) inputs) (drop (k + 1) witnesses) ≡ all
 witnessed_step inputs witnesses k input now new all lt at pushed so =
     let cut : drop k inputs ≡ input ∷ drop (k + 1) inputs = drop_more inputs k input lt ∙ ap (λ z. z ∷ drop (k + 1) inputs) (sym at) in
     let first : witnessed (drop k inputs) (drop k witnesses) ≡ input_with input (slice_get witnesses k) ∷ witnessed (drop (k + 1) inputs) (drop (k + 1) witnesses) =

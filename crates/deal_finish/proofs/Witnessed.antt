@@ -104,9 +104,9 @@ module _ (hash : List ℕ → List ℕ) (keys : Keys) (s : Instance) (given : Li
         ∙ behind_signatures signatures (strings_of strings (reveals_of (core b))) i (length (branches place.choice)) here.output.script
         ∙ ap (λ items. reverse signatures ++ items) (sym (items_are here.output.script))
 
-    by_signers : (signers : List (List Label)) → length signers ≡ length made.draft.spends
-        → path_witnesses hash keys s given strings path made made.draft.spends signers
-        ≡ path_by s.advert given strings (bytes made) path (inputs hash keys s.advert made made.draft.spends signers)
+    by_signers : (signers : List (List Label)) → length signers ≡ length made.pending.spends
+        → path_witnesses hash keys s given strings path made made.pending.spends signers
+        ≡ path_by s.advert given strings (bytes made) path (inputs hash keys s.advert made made.pending.spends signers)
     by_signers [] e = absurd (omega (arith, e))
     by_signers (labels ∷ others) e =
         let puts = put_deposits hash keys s (puts_of (core b)) in
@@ -139,8 +139,8 @@ module _ (hash : List ℕ → List ℕ) (keys : Keys) (s : Instance) (given : Li
   filled_at names.Init l is e =
       let many = signers_for_each hash keys s names.Init l e in
       ap (witnesses hash keys s given strings l) is
-      ∙ deposits_are l 0 l.draft.spends l.signers many
-      ∙ sym (ap (by_which s.advert given strings (bytes l) (inputs hash keys s.advert l l.draft.spends l.signers)) is)
+      ∙ deposits_are l 0 l.pending.spends l.signers many
+      ∙ sym (ap (by_which s.advert given strings (bytes l) (inputs hash keys s.advert l l.pending.spends l.signers)) is)
   filled_at (names.At path) l is e =
       by_ends path (end_at hash keys s path) (subterm_from (paths.position s.advert.root) path) refl (agrees_at hash keys s path) l e
 
@@ -148,4 +148,4 @@ module _ (hash : List ℕ → List ℕ) (keys : Keys) (s : Instance) (given : Li
       → listed_at hash keys s l.which ≡ Some l → finished_by advert given strings t ≡ finished hash keys s given strings l
   finished_is advert l t same is e =
       (λ j. finished_by (sym same j) given strings (is j))
-      ∙ ap (with_witnesses (tx_of l.draft)) (sym (filled_at l.which l refl e))
+      ∙ ap (with_witnesses (tx_of l.pending)) (sym (filled_at l.which l refl e))

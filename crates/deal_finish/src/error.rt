@@ -10,7 +10,7 @@ use std::alloc::{AllocError, AllocFailed};
 pub enum FinishError {
     /// It is refused for this.
     Refused(FinishRefusal),
-    /// Want of memory.
+    /// Out of memory.
     Memory,
 }
 

@@ -1,4 +1,5 @@
-//! Transactions of a deal finished: with the witnesses that the given signatures and secrets make, or why that can't be.
+//! The last step of a deal: it puts signatures and secrets into a transaction's witnesses, or says what is missing
+//! first.
 #![tactic(auto)]
 
 mod branches;

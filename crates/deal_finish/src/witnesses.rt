@@ -38,7 +38,7 @@ fn deposit_witness(
     Ok(Seq::of(items))
 }
 
-// The number of the next input; one of more than 32 bits is taken for want of memory.
+// The number of the next input; one of more than 32 bits counts as out of memory.
 fn next_number(number: u32) -> Result<u32, OutOfMemory>
     ensures { IfOk result (λ n. n ≡ number + 1) }
 {

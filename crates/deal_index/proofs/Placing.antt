@@ -18,12 +18,12 @@ use Rattle.std.proofs.lemmas.List.{get_or_append_left, length-append}
 use Rattle.std.proofs.lemmas.Option.{slice_get-get_or, slice_get_within}
 use Rattle.std.proofs.Math.Seq.{get_or-append_seam}
 use Rattle.spec_data.proofs.MapLemmas.{other_entries, apart_in_order}
-use Rattle.bm_hash.specs.Marks.{mark_of}
+use Rattle.bm_hash.specs.Fingerprints.{fingerprint_of}
 use Rattle.deal_index.specs.declared.places.Places.{Places}
-use Rattle.deal_index.specs.Places.{place_from, is_string, stands_at, marked_at, other_at, place_by, placed_at, place_or, IsIndex, TakesMark, Adds}
+use Rattle.deal_index.specs.Places.{place_from, is_string, stands_at, marked_at, other_at, place_by, placed_at, place_or, IsIndex, TakesFingerprint, Adds}
 
-abbrev pub Marks : Type 0
-Marks = BTreeMap ℕ ℕ
+abbrev pub Fingerprints : Type 0
+Fingerprints = BTreeMap ℕ ℕ
 
 abbrev pub Others : Type 0
 Others = BTreeMap (Vec ℕ) ℕ
@@ -38,21 +38,21 @@ order_equal true same h = cc
 order_equal false true h = refl
 order_equal false false h = cc
 
-same_mark : (m q : ℕ) → is_eq (nat_cmp m q) ≡ true → m ≡ q
-same_mark m q h = let same : m == q ≡ true = order_equal (nat_lt m q) (m == q) h in grind arith
+same_fingerprint : (m q : ℕ) → is_eq (nat_cmp m q) ≡ true → m ≡ q
+same_fingerprint m q h = let same : m == q ≡ true = order_equal (nat_lt m q) (m == q) h in grind arith
 
 -- the mark has the place that it had, or else this one
-pub takes_mark : (old new : Marks) (mark place first : ℕ) → first ≡ unwrap_or (marked_at old mark) place
-    → tree.UpdatesBy nat_cmp (λ k. nat_cmp mark k) old new (Some first) → TakesMark old new mark place first
-takes_mark old new mark place first is updates = (is, λ m. by m (mark == m) refl)
+pub takes_fingerprint : (old new : Fingerprints) (fingerprint place first : ℕ) → first ≡ unwrap_or (marked_at old fingerprint) place
+    → tree.UpdatesBy nat_cmp (λ k. nat_cmp fingerprint k) old new (Some first) → TakesFingerprint old new fingerprint place first
+takes_fingerprint old new fingerprint place first is updates = (is, λ m. by m (fingerprint == m) refl)
   where
-    elsewhere : (m : ℕ) → mark == m ≡ false → (b : Bool) → is_eq (nat_cmp mark m) ≡ b → marked_at new m ≡ marked_at old m
+    elsewhere : (m : ℕ) → fingerprint == m ≡ false → (b : Bool) → is_eq (nat_cmp fingerprint m) ≡ b → marked_at new m ≡ marked_at old m
     elsewhere m apart false h = updates.2 m h
-    elsewhere m apart true h = let same = same_mark mark m h in absurd (grind arith)
+    elsewhere m apart true h = let same = same_fingerprint fingerprint m h in absurd (grind arith)
 
-    by : (m : ℕ) (b : Bool) → mark == m ≡ b → marked_at new m ≡ (if b then Some first else marked_at old m)
-    by m true h = let same : mark ≡ m = grind arith in subst (λ k. marked_at new k ≡ Some first) same updates.1
-    by m false h = elsewhere m h (is_eq (nat_cmp mark m)) refl
+    by : (m : ℕ) (b : Bool) → fingerprint == m ≡ b → marked_at new m ≡ (if b then Some first else marked_at old m)
+    by m true h = let same : fingerprint ≡ m = grind arith in subst (λ k. marked_at new k ≡ Some first) same updates.1
+    by m false h = elsewhere m h (is_eq (nat_cmp fingerprint m)) refl
 
 none_or : (o : Option ℕ) → place_or o None ≡ o
 none_or None = refl
@@ -100,10 +100,10 @@ place_push k q (x ∷ keys) key =
 
 -- the index of no string
 pub index_none : (places : Places) → places.marked.entries ≡ [] → places.others.entries ≡ [] → IsIndex [] places
-index_none places no_mark no_other =
-    let unmarked : (m : ℕ) → marked_at places.marked m ≡ None = λ m. ap (λ es. lookup (λ k. is_eq (nat_cmp m k)) es) no_mark in
+index_none places no_fingerprint no_other =
+    let unmarked : (m : ℕ) → marked_at places.marked m ≡ None = λ m. ap (λ es. lookup (λ k. is_eq (nat_cmp m k)) es) no_fingerprint in
     record {
-      at = λ q. ap (λ o. place_by [] q o (other_at places.others q)) (unmarked (mark_of q));
+      at = λ q. ap (λ o. place_by [] q o (other_at places.others q)) (unmarked (fingerprint_of q));
       within = λ m p h. let none = unmarked m in absurd cc;
       behind = λ q h. ap (λ es. lookup (λ k. is_eq (slice_cmp nat_cmp q k.items)) es) no_other;
       apart = λ e p q h. absurd cc;
@@ -126,13 +126,13 @@ module _ (keys : List (List ℕ)) (places : Places) (is : IsIndex keys places) (
 
   -- what the index told is told of more keys
   same_place : (q : List ℕ) → placed_at (keys ++ key ∷ []) places q ≡ place_from 0 q keys
-  same_place q = by (marked_at places.marked (mark_of q)) refl ∙ is.at q
+  same_place q = by (marked_at places.marked (fingerprint_of q)) refl ∙ is.at q
     where
-      by : (o : Option ℕ) → marked_at places.marked (mark_of q) ≡ o
+      by : (o : Option ℕ) → marked_at places.marked (fingerprint_of q) ≡ o
           → place_by (keys ++ key ∷ []) q o (other_at places.others q) ≡ place_by keys q o (other_at places.others q)
       by None h = refl
       by (Some p) h =
-          ap (λ o. if is_string o q then Some p else other_at places.others q) (get_left p (is.within (mark_of q) p h))
+          ap (λ o. if is_string o q then Some p else other_at places.others q) (get_left p (is.within (fingerprint_of q) p h))
 
   -- another string stands where it stood
   push_apart : (q : List ℕ) → bytes_eq key q ≡ false → place_from 0 q (keys ++ key ∷ []) ≡ place_from 0 q keys
@@ -150,13 +150,13 @@ module _ (keys : List (List ℕ)) (places : Places) (is : IsIndex keys places) (
       ∙ ap (λ (n : ℕ). if bytes_eq key q then Some n else None) e
 
   -- strings of two marks are two
-  marks_apart : (q : List ℕ) → mark_of key == mark_of q ≡ false → bytes_eq key q ≡ false
-  marks_apart q h = by (bytes_eq key q) refl
+  fingerprints_apart : (q : List ℕ) → fingerprint_of key == fingerprint_of q ≡ false → bytes_eq key q ≡ false
+  fingerprints_apart q h = by (bytes_eq key q) refl
     where
       by : (b : Bool) → bytes_eq key q ≡ b → b ≡ false
       by false t = refl
       by true t =
-          let same : mark_of key ≡ mark_of q = ap mark_of ((bytes_eq-Decides key q).0 t) in
+          let same : fingerprint_of key ≡ fingerprint_of q = ap fingerprint_of ((bytes_eq-Decides key q).0 t) in
           absurd (grind arith)
 
   -- ---- a string of a mark that none has
@@ -178,68 +178,69 @@ module _ (keys : List (List ℕ)) (places : Places) (is : IsIndex keys places) (
           subst (λ l. place_from 0 l (keys ++ key ∷ []) ≡ Some p) same
           (push_first key new ∙ ap (λ b. if b then Some (length keys) else None) ((bytes_eq-Decides key key).1 refl) ∙ ap Some here)
 
-  pub index_marked : (marked : Marks) (first : ℕ) → TakesMark places.marked marked (mark_of key) (length keys) first → first ≡ length keys
+  pub index_marked : (marked : Fingerprints) (first : ℕ) → TakesFingerprint places.marked marked (fingerprint_of key) (length keys) first → first ≡ length keys
       → IsIndex (keys ++ key ∷ []) (record { marked = marked; others = places.others; are_apart = places.are_apart })
   index_marked marked first takes here = record {
-    at = λ q. by q (mark_of key == mark_of q) refl;
-    within = λ m p h. within_all m p (mark_of key == m) refl h;
-    behind = λ q h. unmarked q (mark_of key == mark_of q) refl h;
+    at = λ q. by q (fingerprint_of key == fingerprint_of q) refl;
+    within = λ m p h. within_all m p (fingerprint_of key == m) refl h;
+    behind = λ q h. unmarked q (fingerprint_of key == fingerprint_of q) refl h;
     apart = λ are. apart_more (sym (is.at key) ∙ ap (λ o. place_by keys key o (other_at places.others key)) none) are;
   }
     where
-      none : marked_at places.marked (mark_of key) ≡ None
-      none = by_first (marked_at places.marked (mark_of key)) refl
+      none : marked_at places.marked (fingerprint_of key) ≡ None
+      none = by_first (marked_at places.marked (fingerprint_of key)) refl
         where
-          by_first : (o : Option ℕ) → marked_at places.marked (mark_of key) ≡ o → o ≡ None
+          by_first : (o : Option ℕ) → marked_at places.marked (fingerprint_of key) ≡ o → o ≡ None
           by_first None h = refl
           by_first (Some p) h =
-              let lt = is.within (mark_of key) p h in
+              let lt = is.within (fingerprint_of key) p h in
               let same : first ≡ p = takes.0 ∙ ap (λ o. unwrap_or o (length keys)) h in
               absurd (omega (arith, lt, same, here))
 
-      no_mark : (q : List ℕ) → mark_of key == mark_of q ≡ true → marked_at places.marked (mark_of q) ≡ None
-      no_mark q h = let same : mark_of key ≡ mark_of q = grind arith in subst (λ m. marked_at places.marked m ≡ None) same none
+      no_fingerprint : (q : List ℕ) → fingerprint_of key == fingerprint_of q ≡ true → marked_at places.marked (fingerprint_of q) ≡ None
+      no_fingerprint q h = let same : fingerprint_of key ≡ fingerprint_of q = grind arith in subst (λ m. marked_at places.marked m ≡ None) same none
 
-      marked_now : (m : ℕ) (b : Bool) → mark_of key == m ≡ b → marked_at marked m ≡ (if b then Some first else marked_at places.marked m)
+      marked_now : (m : ℕ) (b : Bool) → fingerprint_of key == m ≡ b → marked_at marked m ≡ (if b then Some first else marked_at places.marked m)
       marked_now m b h = takes.1 m ∙ ap (λ b. if b then Some first else marked_at places.marked m) h
 
-      by : (q : List ℕ) (b : Bool) → mark_of key == mark_of q ≡ b
-          → place_by (keys ++ key ∷ []) q (marked_at marked (mark_of q)) (other_at places.others q) ≡ place_from 0 q (keys ++ key ∷ [])
+      by : (q : List ℕ) (b : Bool) → fingerprint_of key == fingerprint_of q ≡ b
+          → place_by (keys ++ key ∷ []) q (marked_at marked (fingerprint_of q)) (other_at places.others q) ≡ place_from 0 q (keys ++ key ∷ [])
       by q true h =
           let at_end : slice_get (keys ++ key ∷ []) first ≡ Some key = ap (slice_get (keys ++ key ∷ [])) here ∙ get_seam in
-          let absent = no_mark q h in
-          ap (λ o. place_by (keys ++ key ∷ []) q o (other_at places.others q)) (marked_now (mark_of q) true h)
+          let absent = no_fingerprint q h in
+          ap (λ o. place_by (keys ++ key ∷ []) q o (other_at places.others q)) (marked_now (fingerprint_of q) true h)
           ∙ ap (λ o. if is_string o q then Some first else other_at places.others q) at_end
           ∙ ap (λ o. if bytes_eq key q then Some first else o) (is.behind q absent)
           ∙ ap (λ (n : ℕ). if bytes_eq key q then Some n else None) here
           ∙ sym (push_first q (sym (is.at q) ∙ ap (λ o. place_by keys q o (other_at places.others q)) absent))
       by q false h =
-          ap (λ o. place_by (keys ++ key ∷ []) q o (other_at places.others q)) (marked_now (mark_of q) false h)
-          ∙ same_place q ∙ sym (push_apart q (marks_apart q h))
+          ap (λ o. place_by (keys ++ key ∷ []) q o (other_at places.others q)) (marked_now (fingerprint_of q) false h)
+          ∙ same_place q ∙ sym (push_apart q (fingerprints_apart q h))
 
-      within_all : (m p : ℕ) (b : Bool) → mark_of key == m ≡ b → marked_at marked m ≡ Some p → p < length (keys ++ key ∷ [])
+      within_all : (m p : ℕ) (b : Bool) → fingerprint_of key == m ≡ b → marked_at marked m ≡ Some p → p < length (keys ++ key ∷ [])
       within_all m p true h found =
           let now = marked_now m true h in
           let same : first ≡ p = cc in
           omega (arith, longer, same, here)
       within_all m p false h found = within_more m p (sym (marked_now m false h) ∙ found)
 
-      unmarked : (q : List ℕ) (b : Bool) → mark_of key == mark_of q ≡ b → marked_at marked (mark_of q) ≡ None → other_at places.others q ≡ None
-      unmarked q true h found = let now = marked_now (mark_of q) true h in absurd cc
-      unmarked q false h found = is.behind q (sym (marked_now (mark_of q) false h) ∙ found)
+      unmarked : (q : List ℕ) (b : Bool) → fingerprint_of key == fingerprint_of q ≡ b → marked_at marked (fingerprint_of q) ≡ None
+          → other_at places.others q ≡ None
+      unmarked q true h found = let now = marked_now (fingerprint_of q) true h in absurd cc
+      unmarked q false h found = is.behind q (sym (marked_now (fingerprint_of q) false h) ∙ found)
 
   -- ---- a string of a mark that another has
 
-  module _ (first : ℕ) (taken : marked_at places.marked (mark_of key) ≡ Some first) where
+  module _ (first : ℕ) (taken : marked_at places.marked (fingerprint_of key) ≡ Some first) where
     -- a string whose mark none has is another one
-    unmarked_apart : (q : List ℕ) → marked_at places.marked (mark_of q) ≡ None → bytes_eq key q ≡ false
-    unmarked_apart q none = marks_apart q (by (mark_of key == mark_of q) refl)
+    unmarked_apart : (q : List ℕ) → marked_at places.marked (fingerprint_of q) ≡ None → bytes_eq key q ≡ false
+    unmarked_apart q none = fingerprints_apart q (by (fingerprint_of key == fingerprint_of q) refl)
       where
-        by : (b : Bool) → mark_of key == mark_of q ≡ b → b ≡ false
+        by : (b : Bool) → fingerprint_of key == fingerprint_of q ≡ b → b ≡ false
         by false h = refl
         by true h =
-            let same : mark_of key ≡ mark_of q = grind arith in
-            let has : marked_at places.marked (mark_of q) ≡ Some first = subst (λ m. marked_at places.marked m ≡ Some first) same taken in
+            let same : fingerprint_of key ≡ fingerprint_of q = grind arith in
+            let has : marked_at places.marked (fingerprint_of q) ≡ Some first = subst (λ m. marked_at places.marked m ≡ Some first) same taken in
             absurd cc
 
     -- the string stands at the first place of its mark
@@ -267,7 +268,7 @@ module _ (keys : List (List ℕ)) (places : Places) (is : IsIndex keys places) (
     pub index_other : (others : Others) → stands_at keys first key ≡ false → Adds places.others others key (length keys)
         → IsIndex (keys ++ key ∷ []) (record { marked = places.marked; others = others; are_apart = false })
     index_other others another adds = record {
-      at = λ q. by q (marked_at places.marked (mark_of q)) refl;
+      at = λ q. by q (marked_at places.marked (fingerprint_of q)) refl;
       within = within_more;
       behind = λ q none.
           adds q
@@ -287,13 +288,13 @@ module _ (keys : List (List ℕ)) (places : Places) (is : IsIndex keys places) (
             let e : 0 + length keys ≡ length keys = omega arith in
             place_push 0 q keys key ∙ ap (λ (n : ℕ). place_or (place_from 0 q keys) (if bytes_eq key q then Some n else None)) e
 
-        by : (q : List ℕ) (o : Option ℕ) → marked_at places.marked (mark_of q) ≡ o
+        by : (q : List ℕ) (o : Option ℕ) → marked_at places.marked (fingerprint_of q) ≡ o
             → place_by (keys ++ key ∷ []) q o (other_at others q) ≡ place_from 0 q (keys ++ key ∷ [])
         by q None h =
             sym (push_apart q (unmarked_apart q h)
             ∙ sym (is.at q) ∙ ap (λ o. place_by keys q o (other_at places.others q)) h)
         by q (Some p) h =
-            ap (λ o. if is_string o q then Some p else other_at others q) (get_left p (is.within (mark_of q) p h))
+            ap (λ o. if is_string o q then Some p else other_at others q) (get_left p (is.within (fingerprint_of q) p h))
             ∙ ap (λ o. if stands_at keys p q then Some p else o) (adds q)
             ∙ or_there (stands_at keys p q) p (other_at places.others q) (if bytes_eq key q then Some (length keys) else None)
             ∙ ap (λ o. place_or o (if bytes_eq key q then Some (length keys) else None))

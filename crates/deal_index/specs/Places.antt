@@ -7,7 +7,7 @@ use Rattle.std.specs.Str.{bytes_eq}
 use Rattle.std.specs.BTreeMap as tree
 use Rattle.std.specs.BTreeMap.{BTreeMap}
 use Rattle.std.specs.Global.{Vec}
-use Rattle.bm_hash.specs.Marks.{mark_of}
+use Rattle.bm_hash.specs.Fingerprints.{fingerprint_of}
 use Rattle.deal_index.specs.declared.places.Places.{Places}
 
 -- the place of the first of these strings that is this one, where the first has place k
@@ -38,13 +38,13 @@ place_by keys q (Some place) other = if stands_at keys place q then Some place e
 
 -- the place that the index has for a string
 abbrev pub placed_at : List (List ℕ) → Places → List ℕ → Option ℕ
-placed_at keys places q = place_by keys q (marked_at places.marked (mark_of q)) (other_at places.others q)
+placed_at keys places q = place_by keys q (marked_at places.marked (fingerprint_of q)) (other_at places.others q)
 
 -- the index has the first places of all of them, and tells whether all are known to differ
 pub record IsIndex (keys : List (List ℕ)) (places : Places) : Type 0 where
   pub at : (q : List ℕ) → placed_at keys places q ≡ place_from 0 q keys
   pub within : (m p : ℕ) → marked_at places.marked m ≡ Some p → p < length keys
-  pub behind : (q : List ℕ) → marked_at places.marked (mark_of q) ≡ None → other_at places.others q ≡ None
+  pub behind : (q : List ℕ) → marked_at places.marked (fingerprint_of q) ≡ None → other_at places.others q ≡ None
   pub apart : places.are_apart ≡ true → (p : ℕ) (q : List ℕ) → slice_get keys p ≡ Some q → place_from 0 q keys ≡ Some p
 
 -- the place of a string that had none
@@ -53,10 +53,10 @@ place_or (Some place) other = Some place
 place_or None other = other
 
 -- a mark has the place that it had, or else this one, and no other mark has another
-abbrev pub TakesMark : BTreeMap ℕ ℕ → BTreeMap ℕ ℕ → ℕ → ℕ → ℕ → Type 0
-TakesMark old new mark place first =
-    (first ≡ unwrap_or (marked_at old mark) place)
-    × ((m : ℕ) → marked_at new m ≡ if mark == m then Some first else marked_at old m)
+abbrev pub TakesFingerprint : BTreeMap ℕ ℕ → BTreeMap ℕ ℕ → ℕ → ℕ → ℕ → Type 0
+TakesFingerprint old new fingerprint place first =
+    (first ≡ unwrap_or (marked_at old fingerprint) place)
+    × ((m : ℕ) → marked_at new m ≡ if fingerprint == m then Some first else marked_at old m)
 
 -- the others have a place more, unless they have one for these bytes
 abbrev pub Adds : BTreeMap (Vec ℕ) ℕ → BTreeMap (Vec ℕ) ℕ → List ℕ → ℕ → Type 0

@@ -2,10 +2,10 @@
 
 ghost use Rattle.std.specs.Prelude.{◌≡◌, ℕ, List, ◌-◌, ◌++◌, ◌∷◌, [], length, take, false, IfOk, OnOk, OnErr};
 ghost use Rattle.std.specs.Option.{option_copied};
-ghost use Rattle.bm_hash.specs.Marks.{mark_of};
-ghost use Rattle.deal_index.specs.Places.{marked_at, other_at, stands_at, placed_at, IsIndex, TakesMark, Adds};
+ghost use Rattle.bm_hash.specs.Fingerprints.{fingerprint_of};
+ghost use Rattle.deal_index.specs.Places.{marked_at, other_at, stands_at, placed_at, IsIndex, TakesFingerprint, Adds};
 
-use bm_hash::mark_of;
+use bm_hash::fingerprint_of;
 use spec_data::{Bytes, OutOfMemory, Seq};
 use std::alloc::Global;
 use std::collections::BTreeMap;
@@ -21,15 +21,15 @@ pub(crate) struct Places {
 }
 
 // Puts the place of a mark in the index, unless an earlier one has it; the place that the mark has then.
-fn add_mark(
+fn add_fingerprint(
     marked: &mut BTreeMap<u64, usize>,
-    mark: u64,
+    fingerprint: u64,
     place: usize,
 ) -> Result<usize, OutOfMemory>
-    ensures ok { IfOk result (λ first. TakesMark marked.old marked.new mark place first) }
+    ensures ok { IfOk result (λ first. TakesFingerprint marked.old marked.new fingerprint place first) }
     ensures err { OnErr result ((m : ℕ) → marked_at marked.new m ≡ marked_at marked.old m) }
 {
-    let first = *marked.entry(mark)?.or_insert(place);
+    let first = *marked.entry(fingerprint)?.or_insert(place);
     Ok(first)
 }
 
@@ -54,10 +54,10 @@ fn other_place(others: &BTreeMap<Vec<u8>, usize>, key: &[u8]) -> Option<usize>
 }
 
 // The place of the first key of a mark.
-fn marked_place(marked: &BTreeMap<u64, usize>, mark: u64) -> Option<usize>
-    ensures { result ≡ marked_at marked.now mark }
+fn marked_place(marked: &BTreeMap<u64, usize>, fingerprint: u64) -> Option<usize>
+    ensures { result ≡ marked_at marked.now fingerprint }
 {
-    marked.get(&mark).copied()
+    marked.get(&fingerprint).copied()
 }
 
 /// Whether this key stands at a place.
@@ -74,7 +74,7 @@ pub(crate) fn stands_at(keys: &[Bytes], place: usize, key: &[u8]) -> bool
 pub(crate) fn place_of(keys: &[Bytes], places: &Places, key: &[u8]) -> Option<usize>
     ensures { result ≡ placed_at keys.now places.now key.now }
 {
-    match marked_place(&places.marked, mark_of(key)) {
+    match marked_place(&places.marked, fingerprint_of(key)) {
         Some(first) => {
             if stands_at(keys, first, key) {
                 Some(first)
@@ -95,7 +95,7 @@ fn add_behind(
     key: &[u8],
 ) -> Result<(), OutOfMemory>
     requires index { IsIndex keys.now places.old }
-    requires taken { marked_at places.old.marked (mark_of key.now) ≡ Some first }
+    requires taken { marked_at places.old.marked (fingerprint_of key.now) ≡ Some first }
     ensures ok { OnOk result (IsIndex (keys.now ++ key.now ∷ []) places.new) }
     ensures err { OnErr result (IsIndex keys.now places.new) }
 {
@@ -119,7 +119,7 @@ fn add_key(
     ensures err { OnErr result (IsIndex keys.now places.new) }
 {
     let place = keys.len();
-    let first = add_mark(&mut places.marked, mark_of(key), place)?;
+    let first = add_fingerprint(&mut places.marked, fingerprint_of(key), place)?;
     if first == place {
         return Ok(());
     }

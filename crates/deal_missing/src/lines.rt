@@ -4,10 +4,10 @@ ghost use Rattle.std.specs.Prelude.{◌≡◌, ◌++◌, codes, option_map, OnOk
 ghost use Rattle.std.specs.Fmt.{decimal};
 ghost use Rattle.spec_data.specs.Digits.{hex_text};
 ghost use Rattle.spec_deal.specs.DealText.{verb_text};
-ghost use Rattle.deal_missing.specs.Wanted as spec;
+ghost use Rattle.deal_missing.specs.Required as spec;
 
 use crate::looking::party_of;
-use crate::wants::Want;
+use crate::requirements::Requirement;
 use bm_keys::put_label;
 use bm_text::{put, put_decimal, put_hex};
 use spec_data::{Bytes, OutOfMemory};
@@ -27,25 +27,33 @@ fn put_verb(out: &mut Vec<u8>, verb: Verb) -> Result<(), OutOfMemory>
 
 // `WHICH k LABEL VERB`
 #[tactic(auto, using(std::proofs::Common::append_assoc))]
-fn put_want(alloc: Global, out: &mut Vec<u8>, want: &Want) -> Result<(), OutOfMemory>
-    ensures { OnOk result (out.new.items ≡ out.old.items ++ spec.wanted_text (spec.want_in want.now)) }
+fn put_requirement(
+    alloc: Global,
+    out: &mut Vec<u8>,
+    requirement: &Requirement,
+) -> Result<(), OutOfMemory>
+    ensures { OnOk result (out.new.items ≡ out.old.items ++ spec.required_text (spec.requirement_in requirement.now)) }
 {
-    put_which(alloc, out, &want.transaction.which)?;
+    put_which(alloc, out, &requirement.transaction.which)?;
     put(out, b" ")?;
-    put_decimal(alloc, out, want.number as u64)?;
+    put_decimal(alloc, out, requirement.number as u64)?;
     put(out, b" ")?;
-    put_label(alloc, out, &want.signer.label)?;
+    put_label(alloc, out, &requirement.signer.label)?;
     put(out, b" ")?;
-    put_verb(out, want.signer.verb)
+    put_verb(out, requirement.signer.verb)
 }
 
 /// `missing WHICH k LABEL VERB`
 #[tactic(auto, using(std::proofs::Common::append_assoc))]
-pub(crate) fn put_missing(alloc: Global, out: &mut Vec<u8>, want: &Want) -> Result<(), OutOfMemory>
-    ensures { OnOk result (out.new.items ≡ out.old.items ++ spec.missing_line (spec.want_in want.now)) }
+pub(crate) fn put_missing(
+    alloc: Global,
+    out: &mut Vec<u8>,
+    requirement: &Requirement,
+) -> Result<(), OutOfMemory>
+    ensures { OnOk result (out.new.items ≡ out.old.items ++ spec.missing_line (spec.requirement_in requirement.now)) }
 {
     put(out, b"missing ")?;
-    put_want(alloc, out, want)?;
+    put_requirement(alloc, out, requirement)?;
     put(out, b"\n")
 }
 
@@ -54,14 +62,14 @@ pub(crate) fn put_missing(alloc: Global, out: &mut Vec<u8>, want: &Want) -> Resu
 fn put_proof(
     alloc: Global,
     out: &mut Vec<u8>,
-    want: &Want,
+    requirement: &Requirement,
     signature: &Bytes,
 ) -> Result<(), OutOfMemory>
-    ensures { OnOk result (out.new.items ≡ out.old.items ++ spec.proof_text (spec.want_in want.now) signature.now) }
+    ensures { OnOk result (out.new.items ≡ out.old.items ++ spec.proof_text (spec.requirement_in requirement.now) signature.now) }
 {
-    put_hex(alloc, out, &want.signer.key)?;
+    put_hex(alloc, out, &requirement.signer.key)?;
     put(out, b" ")?;
-    put_hex(alloc, out, &want.input.digest)?;
+    put_hex(alloc, out, &requirement.input.digest)?;
     put(out, b" ")?;
     put_hex(alloc, out, signature.as_slice())
 }
@@ -71,15 +79,15 @@ fn put_proof(
 pub(crate) fn put_held(
     alloc: Global,
     out: &mut Vec<u8>,
-    want: &Want,
+    requirement: &Requirement,
     signature: &Bytes,
 ) -> Result<(), OutOfMemory>
-    ensures { OnOk result (out.new.items ≡ out.old.items ++ spec.held_line (spec.want_in want.now) signature.now) }
+    ensures { OnOk result (out.new.items ≡ out.old.items ++ spec.held_line (spec.requirement_in requirement.now) signature.now) }
 {
     put(out, b"held ")?;
-    put_want(alloc, out, want)?;
+    put_requirement(alloc, out, requirement)?;
     put(out, b" ")?;
-    put_proof(alloc, out, want, signature)?;
+    put_proof(alloc, out, requirement, signature)?;
     put(out, b"\n")
 }
 
@@ -88,16 +96,16 @@ pub(crate) fn put_held(
 pub(crate) fn put_gate(
     alloc: Global,
     out: &mut Vec<u8>,
-    want: Option<&Want>,
+    requirement: Option<&Requirement>,
 ) -> Result<(), OutOfMemory>
-    ensures { OnOk result (out.new.items ≡ out.old.items ++ spec.gate_line (option_map (λ w. spec.want_in w.now) want.entry)) }
+    ensures { OnOk result (out.new.items ≡ out.old.items ++ spec.gate_line (option_map (λ w. spec.requirement_in w.now) requirement.entry)) }
 {
-    match want {
-        Some(want) => {
+    match requirement {
+        Some(requirement) => {
             put(out, b"init not endorsed ")?;
-            put_which(alloc, out, &want.transaction.which)?;
+            put_which(alloc, out, &requirement.transaction.which)?;
             put(out, b" ")?;
-            put(out, party_of(&want.signer.label).bytes())?;
+            put(out, party_of(&requirement.signer.label).bytes())?;
             put(out, b"\n")
         }
         None => put(out, b"init may be signed\n"),

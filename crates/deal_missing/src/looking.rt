@@ -11,9 +11,9 @@ ghost use Rattle.spec_deal.specs.Given as known;
 ghost use Rattle.spec_deal.specs.Slots as slots;
 ghost use Rattle.spec_deal.specs.Slots.{Slot, listed_slots};
 ghost use Rattle.spec_deal.specs.Transactions.{transaction as transaction_of, transactions as transactions_of};
-ghost use Rattle.deal_missing.specs.Wanted as spec;
+ghost use Rattle.deal_missing.specs.Required as spec;
 
-use crate::wants::{Want, all_wants, wants_of};
+use crate::requirements::{Requirement, all_requirements, requirements_of};
 use deal_signatures::Given;
 use spec_bitcoin::Label;
 use spec_data::{Bytes, Name, OutOfMemory};
@@ -22,23 +22,27 @@ use spec_terms::Path;
 use spec_tool::Which;
 use std::alloc::Global;
 
-/// The signature that is wanted, where it is there.
+/// The signature that is needed, where it is there.
 pub(crate) fn signature_of<'a>(
     alloc: Global,
     given: &'a Given,
-    want: &Want,
+    requirement: &Requirement,
 ) -> Result<Option<&'a Bytes>, OutOfMemory>
-    ensures { IfOk result (λ o. option_map (λ s. s.now) o ≡ spec.signature_of given.now (spec.want_in want.now)) }
+    ensures { IfOk result (λ o. option_map (λ s. s.now) o ≡ spec.signature_of given.now (spec.requirement_in requirement.now)) }
 {
-    let tx = want.transaction.bytes.as_slice();
-    given.signature(alloc, tx, want.number, &want.signer.key)
+    let tx = requirement.transaction.bytes.as_slice();
+    given.signature(alloc, tx, requirement.number, &requirement.signer.key)
 }
 
-/// Whether the signature that is wanted is there.
-pub(crate) fn is_there(alloc: Global, given: &Given, want: &Want) -> Result<bool, OutOfMemory>
-    ensures { IfOk result (λ b. b ≡ spec.is_there given.now (spec.want_in want.now)) }
+/// Whether the signature that is needed is there.
+pub(crate) fn is_there(
+    alloc: Global,
+    given: &Given,
+    requirement: &Requirement,
+) -> Result<bool, OutOfMemory>
+    ensures { IfOk result (λ b. b ≡ spec.is_there given.now (spec.requirement_in requirement.now)) }
 {
-    Ok(signature_of(alloc, given, want)?.is_some())
+    Ok(signature_of(alloc, given, requirement)?.is_some())
 }
 
 fn is_endorsement(verb: Verb) -> bool
@@ -52,27 +56,31 @@ fn is_endorsement(verb: Verb) -> bool
 }
 
 // Whether it is an endorsement that isn't there.
-fn is_unendorsed(alloc: Global, given: &Given, want: &Want) -> Result<bool, OutOfMemory>
-    ensures { IfOk result (λ b. b ≡ spec.is_unendorsed given.now (spec.want_in want.now)) }
+fn is_unendorsed(
+    alloc: Global,
+    given: &Given,
+    requirement: &Requirement,
+) -> Result<bool, OutOfMemory>
+    ensures { IfOk result (λ b. b ≡ spec.is_unendorsed given.now (spec.requirement_in requirement.now)) }
 {
-    if !is_endorsement(want.signer.verb) {
+    if !is_endorsement(requirement.signer.verb) {
         return Ok(false);
     }
-    Ok(!is_there(alloc, given, want)?)
+    Ok(!is_there(alloc, given, requirement)?)
 }
 
 /// The first of these that is an endorsement and isn't there.
 pub(crate) fn first_without<'a, 'b>(
     alloc: Global,
     given: &Given,
-    wants: &'b [Want<'a>],
-) -> Result<Option<&'b Want<'a>>, OutOfMemory>
-    ensures { IfOk result (λ o. option_map (λ w. spec.want_in w.now) o
-        ≡ find (spec.is_unendorsed given.now) (map spec.want_in wants.now)) }
+    requirements: &'b [Requirement<'a>],
+) -> Result<Option<&'b Requirement<'a>>, OutOfMemory>
+    ensures { IfOk result (λ o. option_map (λ w. spec.requirement_in w.now) o
+        ≡ find (spec.is_unendorsed given.now) (map spec.requirement_in requirements.now)) }
 {
-    for want in wants {
-        if is_unendorsed(alloc, given, want)? {
-            return Ok(Some(want));
+    for requirement in requirements {
+        if is_unendorsed(alloc, given, requirement)? {
+            return Ok(Some(requirement));
         }
     }
     Ok(None)
@@ -82,14 +90,14 @@ pub(crate) fn first_without<'a, 'b>(
 fn first_lacking<'a, 'b>(
     alloc: Global,
     given: &Given,
-    wants: &'b [Want<'a>],
-) -> Result<Option<&'b Want<'a>>, OutOfMemory>
-    ensures { IfOk result (λ o. option_map (λ w. spec.want_in w.now) o
-        ≡ find (λ w. not (spec.is_there given.now w)) (map spec.want_in wants.now)) }
+    requirements: &'b [Requirement<'a>],
+) -> Result<Option<&'b Requirement<'a>>, OutOfMemory>
+    ensures { IfOk result (λ o. option_map (λ w. spec.requirement_in w.now) o
+        ≡ find (λ w. not (spec.is_there given.now w)) (map spec.requirement_in requirements.now)) }
 {
-    for want in wants {
-        if !is_there(alloc, given, want)? {
-            return Ok(Some(want));
+    for requirement in requirements {
+        if !is_there(alloc, given, requirement)? {
+            return Ok(Some(requirement));
         }
     }
     Ok(None)
@@ -115,25 +123,31 @@ pub(crate) fn party_of(label: &Label) -> &Name
     }
 }
 
-// The path of what is wanted, and who signs it.
-fn path_and_party(alloc: Global, want: Option<&Want>) -> Result<Option<(Path, Name)>, OutOfMemory>
-    ensures { IfOk result (λ o. o ≡ option_map spec.path_and_party (option_map (λ w. spec.want_in w.now) want.entry)) }
+// The path of what is needed, and who signs it.
+fn path_and_party(
+    alloc: Global,
+    requirement: Option<&Requirement>,
+) -> Result<Option<(Path, Name)>, OutOfMemory>
+    ensures { IfOk result (λ o. o ≡ option_map spec.path_and_party (option_map (λ w. spec.requirement_in w.now) requirement.entry)) }
 {
-    match want {
-        Some(want) => {
-            let path = path_of(alloc, &want.transaction.which)?;
-            Ok(Some((path, *party_of(&want.signer.label))))
+    match requirement {
+        Some(requirement) => {
+            let path = path_of(alloc, &requirement.transaction.which)?;
+            Ok(Some((path, *party_of(&requirement.signer.label))))
         }
         None => Ok(None),
     }
 }
 
-// The input of what is wanted, and by whose key.
-fn input_and_label(alloc: Global, want: Option<&Want>) -> Result<Option<(u32, Label)>, OutOfMemory>
-    ensures { IfOk result (λ o. o ≡ option_map spec.input_and_label (option_map (λ w. spec.want_in w.now) want.entry)) }
+// The input of what is needed, and by whose key.
+fn input_and_label(
+    alloc: Global,
+    requirement: Option<&Requirement>,
+) -> Result<Option<(u32, Label)>, OutOfMemory>
+    ensures { IfOk result (λ o. o ≡ option_map spec.input_and_label (option_map (λ w. spec.requirement_in w.now) requirement.entry)) }
 {
-    match want {
-        Some(want) => Ok(Some((want.number, want.signer.label.copy(alloc)?))),
+    match requirement {
+        Some(requirement) => Ok(Some((requirement.number, requirement.signer.label.copy(alloc)?))),
         None => Ok(None),
     }
 }
@@ -145,10 +159,10 @@ fn unendorsed(
     given: &Given,
 ) -> Result<Option<(Path, Name)>, OutOfMemory>
     ensures { IfOk result (λ o. o ≡ option_map spec.path_and_party
-        (find (spec.is_unendorsed given.now) (spec.wanted transactions.now))) }
+        (find (spec.is_unendorsed given.now) (spec.required transactions.now))) }
 {
-    let wants = all_wants(alloc, transactions)?;
-    path_and_party(alloc, first_without(alloc, given, &wants)?)
+    let requirements = all_requirements(alloc, transactions)?;
+    path_and_party(alloc, first_without(alloc, given, &requirements)?)
 }
 
 // The input and the label of the first signature of a transaction that isn't there.
@@ -158,10 +172,10 @@ fn unsigned(
     given: &Given,
 ) -> Result<Option<(u32, Label)>, OutOfMemory>
     ensures { IfOk result (λ o. o ≡ option_map spec.input_and_label
-        (find (λ w. not (spec.is_there given.now w)) (spec.transaction_wanted transaction.now))) }
+        (find (λ w. not (spec.is_there given.now w)) (spec.transaction_required transaction.now))) }
 {
-    let wants = wants_of(alloc, transaction)?;
-    input_and_label(alloc, first_lacking(alloc, given, &wants)?)
+    let requirements = requirements_of(alloc, transaction)?;
+    input_and_label(alloc, first_lacking(alloc, given, &requirements)?)
 }
 
 /// The first endorsement that isn't there, by its path and its party. Where none is missing, the initial transaction may be signed.

@@ -5,11 +5,11 @@ ghost use Rattle.spec_compiler.specs.Keyed.Instance.{Instance};
 ghost use Rattle.spec_compiler.specs.Keyed.Keys.{Keys};
 ghost use Rattle.spec_deal.specs.DealText as texts;
 ghost use Rattle.spec_deal.specs.Transactions.{transactions as transactions_of};
-ghost use Rattle.deal_missing.specs.Wanted as spec;
+ghost use Rattle.deal_missing.specs.Required as spec;
 
 use crate::lines::{put_gate, put_held, put_missing};
 use crate::looking::{first_without, is_there, signature_of};
-use crate::wants::{Want, all_wants};
+use crate::requirements::{Requirement, all_requirements};
 use deal_signatures::Given;
 use spec_data::OutOfMemory;
 use spec_deal::Transaction;
@@ -20,14 +20,14 @@ fn put_if_missing(
     alloc: Global,
     out: &mut Vec<u8>,
     given: &Given,
-    want: &Want,
+    requirement: &Requirement,
 ) -> Result<(), OutOfMemory>
-    ensures { OnOk result (out.new.items ≡ out.old.items ++ spec.told_if_missing given.now (spec.want_in want.now)) }
+    ensures { OnOk result (out.new.items ≡ out.old.items ++ spec.told_if_missing given.now (spec.requirement_in requirement.now)) }
 {
-    if is_there(alloc, given, want)? {
+    if is_there(alloc, given, requirement)? {
         return Ok(());
     }
-    put_missing(alloc, out, want)
+    put_missing(alloc, out, requirement)
 }
 
 // The line of a signature that is there.
@@ -35,12 +35,12 @@ fn put_if_held(
     alloc: Global,
     out: &mut Vec<u8>,
     given: &Given,
-    want: &Want,
+    requirement: &Requirement,
 ) -> Result<(), OutOfMemory>
-    ensures { OnOk result (out.new.items ≡ out.old.items ++ spec.told_if_held given.now (spec.want_in want.now)) }
+    ensures { OnOk result (out.new.items ≡ out.old.items ++ spec.told_if_held given.now (spec.requirement_in requirement.now)) }
 {
-    match signature_of(alloc, given, want)? {
-        Some(signature) => put_held(alloc, out, want, signature),
+    match signature_of(alloc, given, requirement)? {
+        Some(signature) => put_held(alloc, out, requirement, signature),
         None => Ok(()),
     }
 }
@@ -50,12 +50,12 @@ fn put_all_missing(
     alloc: Global,
     out: &mut Vec<u8>,
     given: &Given,
-    wants: &[Want],
+    requirements: &[Requirement],
 ) -> Result<(), OutOfMemory>
-    ensures { OnOk result (out.new.items ≡ out.old.items ++ flat_map (spec.told_if_missing given.now) (map spec.want_in wants.now)) }
+    ensures { OnOk result (out.new.items ≡ out.old.items ++ flat_map (spec.told_if_missing given.now) (map spec.requirement_in requirements.now)) }
 {
-    for want in wants {
-        put_if_missing(alloc, out, given, want)?;
+    for requirement in requirements {
+        put_if_missing(alloc, out, given, requirement)?;
     }
     Ok(())
 }
@@ -65,42 +65,42 @@ fn put_all_held(
     alloc: Global,
     out: &mut Vec<u8>,
     given: &Given,
-    wants: &[Want],
+    requirements: &[Requirement],
 ) -> Result<(), OutOfMemory>
-    ensures { OnOk result (out.new.items ≡ out.old.items ++ flat_map (spec.told_if_held given.now) (map spec.want_in wants.now)) }
+    ensures { OnOk result (out.new.items ≡ out.old.items ++ flat_map (spec.told_if_held given.now) (map spec.requirement_in requirements.now)) }
 {
-    for want in wants {
-        put_if_held(alloc, out, given, want)?;
+    for requirement in requirements {
+        put_if_held(alloc, out, given, requirement)?;
     }
     Ok(())
 }
 
-// What isn't there of all that is wanted, and whether the initial transaction may be signed.
+// What isn't there of all that is needed, and whether the initial transaction may be signed.
 fn missing_of(
     alloc: Global,
     transactions: &[Transaction],
     given: &Given,
 ) -> Result<Vec<u8>, OutOfMemory>
-    ensures { IfOk result (λ text. text.items ≡ spec.missing_by given.now (spec.wanted transactions.now)) }
+    ensures { IfOk result (λ text. text.items ≡ spec.missing_by given.now (spec.required transactions.now)) }
 {
-    let wants = all_wants(alloc, transactions)?;
+    let requirements = all_requirements(alloc, transactions)?;
     let mut out = Vec::new(alloc);
-    put_all_missing(alloc, &mut out, given, &wants)?;
-    put_gate(alloc, &mut out, first_without(alloc, given, &wants)?)?;
+    put_all_missing(alloc, &mut out, given, &requirements)?;
+    put_gate(alloc, &mut out, first_without(alloc, given, &requirements)?)?;
     Ok(out)
 }
 
-// What is there of all that is wanted.
+// What is there of all that is needed.
 fn held_of(
     alloc: Global,
     transactions: &[Transaction],
     given: &Given,
 ) -> Result<Vec<u8>, OutOfMemory>
-    ensures { IfOk result (λ text. text.items ≡ spec.held_by given.now (spec.wanted transactions.now)) }
+    ensures { IfOk result (λ text. text.items ≡ spec.held_by given.now (spec.required transactions.now)) }
 {
-    let wants = all_wants(alloc, transactions)?;
+    let requirements = all_requirements(alloc, transactions)?;
     let mut out = Vec::new(alloc);
-    put_all_held(alloc, &mut out, given, &wants)?;
+    put_all_held(alloc, &mut out, given, &requirements)?;
     Ok(out)
 }
 

@@ -23,13 +23,14 @@ use Rattle.deal_compile.specs.Signable.{is_signable}
 use Rattle.deal_plan.specs.PsbtParts.{input_for, psbt_for}
 
 module _ (hash : List ℕ → List ℕ) (keys : Keys) (advert : Advert) (l : Listed) where
-  inputs_told : (spends : List Spent) (signers : List (List Label)) → map input_for (inputs hash keys advert l spends signers) ≡ map (unsigned_input hash) spends
+  inputs_told : (spends : List Spent) (signers : List (List Label)) → map input_for (inputs hash keys advert l spends signers)
+      ≡ map (unsigned_input hash) spends
   inputs_told [] signers = refl
   inputs_told (spent ∷ spends) [] = ap (λ rest. unsigned_input hash spent ∷ rest) (inputs_told spends [])
   inputs_told (spent ∷ spends) (labels ∷ signers) = ap (λ rest. unsigned_input hash spent ∷ rest) (inputs_told spends signers)
 
   pub psbt_told : psbt_for (transaction hash keys advert l) ≡ unsigned_psbt hash l
-  psbt_told = ap (λ is. record { tx = tx_of l.draft; inputs = is }) (inputs_told l.draft.spends l.signers)
+  psbt_told = ap (λ is. record { tx = tx_of l.pending; inputs = is }) (inputs_told l.pending.spends l.signers)
 
 lines_told : (hash : List ℕ → List ℕ) (keys : Keys) (advert : Advert) (ls : List Listed)
     → flat_map (λ t. psbt_line (psbt_for t)) (map (transaction hash keys advert) ls) ≡ flat_map (λ l. psbt_line (unsigned_psbt hash l)) ls

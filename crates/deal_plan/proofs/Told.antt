@@ -96,11 +96,11 @@ module _ (hash : List ℕ → List ℕ) (advert : Advert) (deal : Deal) where
       ∙ ap (λ (x : List ℕ). signs ++ x) (inputs_told l (k + 1) spends signers n))
       ∙ sym (append_assoc digest signs (inputs_text l.which (k + 1) (inputs hash keys advert l spends signers)))
 
-  listed_told : (l : Listed) (rest : List PlanLine) → length l.signers ≡ length l.draft.spends
+  listed_told : (l : Listed) (rest : List PlanLine) → length l.signers ≡ length l.pending.spends
       → lines_text (listed_lines hash advert l ++ rest) ≡ transaction_text (transaction hash keys advert l) ++ lines_text rest
   listed_told l rest h =
       lines_append (listed_lines hash advert l) rest
-      ∙ ap (λ (x : List ℕ). ((tx_line hash l).text ++ x) ++ lines_text rest) (inputs_told l 0 l.draft.spends l.signers h)
+      ∙ ap (λ (x : List ℕ). ((tx_line hash l).text ++ x) ++ lines_text rest) (inputs_told l 0 l.pending.spends l.signers h)
 
   paths_told : (es : List (List PathStep × Unsigned)) → AreRight (unsigned_at hash keys s) es
       → lines_text (flat_map (listed_lines hash advert) (map (λ p. path_listed s (p.0) (p.1)) es))
@@ -108,7 +108,7 @@ module _ (hash : List ℕ → List ℕ) (advert : Advert) (deal : Deal) where
   paths_told [] right = refl
   paths_told (e ∷ es) right =
       let l = path_listed s (e.0) (e.1) in
-      let many : length l.signers ≡ length l.draft.spends = signers_for_each hash keys s (names.At (e.0)) l (ap (option_map (path_listed s (e.0))) right.0) in
+      let many : length l.signers ≡ length l.pending.spends = signers_for_each hash keys s (names.At (e.0)) l (ap (option_map (path_listed s (e.0))) right.0) in
       listed_told l (flat_map (listed_lines hash advert) (map (λ p. path_listed s (p.0) (p.1)) es)) many
       ∙ ap (λ (x : List ℕ). transaction_text (transaction hash keys advert l) ++ x) (paths_told es right.1)
 

@@ -7,7 +7,7 @@ use Rattle.std.proofs.lemmas.Slice.Eq.{bytes_eq-Decides}
 use Rattle.std.proofs.Common.{refl, sym, ap, ◌∙◌, if◌then◌else◌, arith}
 use Rattle.spec_data.specs.Lists.{is_among}
 use Rattle.spec_data.specs.Digits.{read_hex}
-use Rattle.spec_data.specs.Messages.{noted, clash}
+use Rattle.spec_data.specs.Messages.{noted, collision_with}
 use Rattle.spec_terms.specs.Advert.{Advert}
 use Rattle.spec_terms.specs.Precondition.{secrets, names_of}
 use Rattle.spec_terms.specs.declared.pre.Pre.{Pre}
@@ -49,9 +49,9 @@ not_longer n text h = grind (arith, h)
 -- a string that no line has given, of the size of a secret
 pub new_line : (hash : List ℕ → List ℕ) (s : Instance) (messages : List (List ℕ)) (shown : Shown) (o : Option Shown)
     → option_map (λ (x : Shown). x.line) o ≡ None → has_length shown.bytes ≡ true
-    → if_new hash s messages shown o ≡ hashed_line hash s shown (clash hash messages shown.bytes)
+    → if_new hash s messages shown o ≡ hashed_line hash s shown (collision_with hash messages shown.bytes)
 new_line hash s messages shown None e long =
-    ap (λ b. if b then hashed_line hash s shown (clash hash messages shown.bytes) else bad reasons.Length) long
+    ap (λ b. if b then hashed_line hash s shown (collision_with hash messages shown.bytes) else bad reasons.Length) long
 new_line hash s messages shown (Some x) e long = cc
 
 -- ---- what a line names

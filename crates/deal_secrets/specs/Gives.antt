@@ -2,7 +2,7 @@
 use Rattle.std.specs.Prelude.{◌≡◌, ℕ, List, [], ◌∷◌, ◌++◌, IsSome, Option, Some, None, Result, Ok, Err}
 use Rattle.std.specs.List.{find}
 use Rattle.std.specs.Str.{bytes_eq}
-use Rattle.spec_data.specs.Messages.{noted, clash}
+use Rattle.spec_data.specs.Messages.{noted, collision_with}
 use Rattle.spec_compiler.specs.Keyed.Instance.{Instance}
 use Rattle.bm_hash.specs.Messages.{evidence_of}
 use Rattle.spec_deal.specs.declared.entry.Shown.{Shown}
@@ -40,11 +40,11 @@ LeadsOn hash s messages taken (Ok None) line = line ≡ empty
 LeadsOn hash s messages taken (Ok (Some shown)) line = Leads hash s messages taken (Ok shown) line
 LeadsOn hash s messages taken (Err e) line = Stops None e line
 
--- a message was hashed behind others among which none clashed: its digest, or that it clashes with one of them
+-- a message was hashed behind others among which none collided: its digest, or that it collides with one of them
 abbrev pub IsHashed : (List ℕ → List ℕ) → List (List ℕ) → List (List ℕ) → List ℕ → Result (List ℕ) LineError → Type 0
 IsHashed hash old new message (Ok digest) =
-    (digest ≡ hash message) × (clash hash old message ≡ None) × (new ≡ noted old message) × (evidence_of hash new ≡ None)
-IsHashed hash old new message (Err lines.Collided) = (evidence_of hash new ≡ clash hash old message) × IsSome (clash hash old message)
+    (digest ≡ hash message) × (collision_with hash old message ≡ None) × (new ≡ noted old message) × (evidence_of hash new ≡ None)
+IsHashed hash old new message (Err lines.Collided) = (evidence_of hash new ≡ collision_with hash old message) × IsSome (collision_with hash old message)
 IsHashed hash old new message (Err lines.Memory) = Unit {0}
 IsHashed hash old new message (Err (lines.Bad reason)) = ⊥
 

@@ -16,7 +16,7 @@ pub enum SecretsError {
     Refused(SecretFault),
     /// A string and an earlier one that was hashed have one digest; the trail has both.
     Collided,
-    /// Want of memory.
+    /// Out of memory.
     Memory,
 }
 

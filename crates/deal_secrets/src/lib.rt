@@ -1,12 +1,13 @@
-//! Files of secrets: the strings that a text gives to the secrets of a contract, and why a text is refused.
+//! Reads files of secrets for `deal finish`: each string has to be a secret of the contract, of the right size and
+//! hash.
 #![tactic(auto)]
 
 mod error;
 mod lines;
 mod reading;
 mod refusals;
+mod required;
 mod strings;
-mod wanted;
 
 pub use error::SecretsError;
 pub use reading::read_secrets;

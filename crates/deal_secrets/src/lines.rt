@@ -4,7 +4,7 @@ ghost use Rattle.std.specs.Prelude.{◌≡◌, ◌∷◌, [], ℕ, List, None, m
 ghost use Rattle.std.specs.List.{find};
 ghost use Rattle.std.specs.Str.{bytes_eq};
 ghost use Rattle.spec_data.specs.Digits as digits;
-ghost use Rattle.spec_data.specs.Messages.{clash};
+ghost use Rattle.spec_data.specs.Messages.{collision_with};
 ghost use Rattle.spec_text.specs.Lines.{words_of};
 ghost use Rattle.spec_text.specs.Words.{one_of};
 ghost use Rattle.spec_compiler.specs.Keyed.Instance.{Instance};
@@ -15,8 +15,8 @@ ghost use Rattle.bm_hash.specs.Messages.{evidence_of};
 ghost use Rattle.deal_secrets.specs.Gives.{Leads, LeadsOn, IsHashed, Takes};
 
 use crate::error::LineError;
+use crate::required::{is_hash_of, secret_named};
 use crate::strings::Strings;
-use crate::wanted::{is_hash_of, secret_named};
 use bm_hash::{Hash32, Trail, TrailError};
 use bm_runfile::words_of;
 use bm_text::{HexError, read_hex};
@@ -129,7 +129,7 @@ fn take_new<H: Hash32 + Drop>(
     ensures takes { let hash = H.digest_of trail.old.hasher in
         (s : Instance) → s.hashes ≡ hashes.now
         → Takes hash trail.old.messages trail.new.messages strings.old strings.new result
-        (spec.hashed_line hash s shown (clash hash trail.old.messages shown.bytes)) }
+        (spec.hashed_line hash s shown (collision_with hash trail.old.messages shown.bytes)) }
 {
     let digest = hash_of(trail, shown.bytes.as_slice())?;
     if !is_hash_of(hashes, &shown.name, &digest) {

@@ -53,8 +53,8 @@ fn read_lines<H: Hash32 + Drop>(
     let mut rest = text;
     let mut line = 1u32;
     while !rest.is_empty() {
-        let (front, more) = first_line(rest);
-        if let Err(error) = take_line(alloc, trail, checked, hashes, &mut strings, line, front) {
+        let (prefix, more) = first_line(rest);
+        if let Err(error) = take_line(alloc, trail, checked, hashes, &mut strings, line, prefix) {
             return Err(at_line(error, line));
         }
         rest = more;

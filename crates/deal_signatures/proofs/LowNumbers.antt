@@ -59,15 +59,15 @@ low_joined high low either small =
     ap (λ n. nat_le n half_order) (joined high low either) ∙ low_by_halves (number_from 0 high) (number_from 0 low) small
 
 -- cut before the last 16 bytes
-pub low_cut : (bs front back : List ℕ) (k : ℕ) → front ≡ take k bs → back ≡ drop k bs → k ≡ length bs - 16
-    → number_from 0 back < 2 ^ 128 → is_low_of (number_from 0 front) (number_from 0 back) ≡ is_low bs
-low_cut bs front back k first rest here small =
-    sym (low_joined front back either small) ∙ ap is_low ((λ j. first j ++ rest j) ∙ take-append-drop k bs)
+pub low_cut : (bs prefix back : List ℕ) (k : ℕ) → prefix ≡ take k bs → back ≡ drop k bs → k ≡ length bs - 16
+    → number_from 0 back < 2 ^ 128 → is_low_of (number_from 0 prefix) (number_from 0 back) ≡ is_low bs
+low_cut bs prefix back k first rest here small =
+    sym (low_joined prefix back either small) ∙ ap is_low ((λ j. first j ++ rest j) ∙ take-append-drop k bs)
   where
-    either : (length back ≡ 16) ⊎ (front ≡ [])
+    either : (length back ≡ 16) ⊎ (prefix ≡ [])
     either = by (nat_le 16 (length bs)) refl
       where
-        by : (t : Bool) → nat_le 16 (length bs) ≡ t → (length back ≡ 16) ⊎ (front ≡ [])
+        by : (t : Bool) → nat_le 16 (length bs) ≡ t → (length back ≡ 16) ⊎ (prefix ≡ [])
         by true e = inl (ap length rest ∙ length-drop k bs ∙ sixteen e)
           where
             sixteen : nat_le 16 (length bs) ≡ true → length bs - k ≡ 16

@@ -1,4 +1,4 @@
--- Where all that are wanted at one place are of one digest, one verification of a signature is enough.
+-- Where all that are needed at one place are of one digest, one verification of a signature is enough.
 use Rattle.std.proofs.Common.{◌≡◌, ℕ, List, [], ◌∷◌, Bool, true, false, not, Option, Some, None, refl, sym, ap, subst, ◌∙◌, arith, cond}
 use Rattle.std.specs.Prelude.{◌&&◌, ◌||◌, ◌==◌}
 use Rattle.std.specs.List.{find, list_all}
@@ -7,7 +7,7 @@ use Rattle.std.proofs.lemmas.Bool.{and_parts, and_from}
 use Rattle.std.proofs.lemmas.Slice.Eq.{bytes_eq-Decides}
 use Rattle.spec_deal.specs.declared.signed.Signed.{Signed}
 use Rattle.spec_deal.specs.SignatureFile.{verifies_if, is_verified}
-use Rattle.spec_deal.specs.Transactions.{Wanted, is_at}
+use Rattle.spec_deal.specs.Transactions.{Required, is_at}
 use Rattle.spec_deal.specs.Verifier.{Verifier}
 use Rattle.deal_signatures.specs.Agreeing.{is_same, first_like, is_as_first, do_agree}
 use Rattle.deal_signatures.specs.Keying.{signed_by}
@@ -55,25 +55,25 @@ none_pass p q (y ∷ ys) e h = by_test (p y) refl e (none_pass p q ys)
 same_numbers : (i j : ℕ) → (i == j) ≡ true → i ≡ j
 same_numbers i j e = grind (arith, e)
 
-module _ (v : Verifier) (all : List Wanted) (g : Signed) where
-  abbrev at_place : Wanted → Bool
+module _ (v : Verifier) (all : List Required) (g : Signed) where
+  abbrev at_place : Required → Bool
   at_place w = is_at w.spot g
 
-  abbrev good : Wanted → Bool
+  abbrev good : Required → Bool
   good w = v.is_signature g.key w.digest g.signature
 
   -- what stands at the signature's place has the first there as its first
-  first_there : (w : Wanted) → at_place w ≡ true → first_like all w ≡ find at_place all
+  first_there : (w : Required) → at_place w ≡ true → first_like all w ≡ find at_place all
   first_there w h =
       let p = and_parts (bytes_eq g.tx w.spot.tx) ((g.input == w.spot.input) && bytes_eq g.key w.spot.key) h in
       let q = and_parts (g.input == w.spot.input) (bytes_eq g.key w.spot.key) p.1 in
       let tx : w.spot.tx ≡ g.tx = sym ((bytes_eq-Decides g.tx w.spot.tx).0 p.0) in
       let input : w.spot.input ≡ g.input = sym (same_numbers g.input w.spot.input q.0) in
       let key : w.spot.key ≡ g.key = sym ((bytes_eq-Decides g.key w.spot.key).0 q.1) in
-      λ i. find (λ (x : Wanted). is_at x.spot (signed_by (tx i) (input i) (key i) [])) all
+      λ i. find (λ (x : Required). is_at x.spot (signed_by (tx i) (input i) (key i) [])) all
 
   -- so it has that digest
-  one_good : (first : Wanted) → find at_place all ≡ Some first → good first ≡ true → (w : Wanted) → is_as_first all w ≡ true
+  one_good : (first : Required) → find at_place all ≡ Some first → good first ≡ true → (w : Required) → is_as_first all w ≡ true
       → verifies_if v g w ≡ true
   one_good first e k w h = by_test (at_place w) refl
     where
@@ -84,18 +84,18 @@ module _ (v : Verifier) (all : List Wanted) (g : Signed) where
           let digest : first.digest ≡ w.digest = (bytes_eq-Decides first.digest w.digest).0 same in
           subst (λ (d : List ℕ). v.is_signature g.key d g.signature ≡ true) digest k
 
-  -- by the first that is wanted there, if there is one
-  abbrev by_option : Option Wanted → Bool
+  -- by the first that is needed there, if there is one
+  abbrev by_option : Option Required → Bool
   by_option None = true
   by_option (Some first) = good first
 
-  if_absent : (w : Wanted) → at_place w ≡ false → verifies_if v g w ≡ true
+  if_absent : (w : Required) → at_place w ≡ false → verifies_if v g w ≡ true
   if_absent w e = ap (λ b. not b || good w) e
 
-  if_first_bad : (first : Wanted) → good first ≡ false → at_place first ≡ true → verifies_if v g first ≡ false
+  if_first_bad : (first : Required) → good first ≡ false → at_place first ≡ true → verifies_if v g first ≡ false
   if_first_bad first k e = λ i. not (e i) || k i
 
-  pub by_first : (o : Option Wanted) → do_agree all ≡ true → find at_place all ≡ o → by_option o ≡ is_verified v all g
+  pub by_first : (o : Option Required) → do_agree all ≡ true → find at_place all ≡ o → by_option o ≡ is_verified v all g
   by_first None agree e = sym (none_pass at_place (verifies_if v g) all e if_absent)
   by_first (Some first) agree e = by_good (good first) refl
     where

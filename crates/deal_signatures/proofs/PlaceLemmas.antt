@@ -7,12 +7,12 @@ use Rattle.std.specs.Cmp.Lexicographic.{nat_list_eq_equiv}
 use Rattle.std.specs.Str.{bytes_eq}
 use Rattle.std.proofs.lemmas.Bool.{and_parts}
 use Rattle.spec_deal.specs.declared.signed.Signed.{Signed}
-use Rattle.spec_deal.specs.Transactions.{Wanted, is_at}
+use Rattle.spec_deal.specs.Transactions.{Required, is_at}
 use Rattle.deal_index.proofs.Finding.{find_by, find_map, same_numbered, same_behind}
 use Rattle.deal_signatures.specs.declared.given.Entry.{Entry}
-use Rattle.deal_signatures.specs.declared.wanted.Place.{Place}
+use Rattle.deal_signatures.specs.declared.required.Place.{Place}
 use Rattle.deal_signatures.specs.Keying.{place_key, is_place, signed_key, is_sized}
-use Rattle.deal_signatures.specs.Seen.{signed_in, wanted_in}
+use Rattle.deal_signatures.specs.Seen.{signed_in, required_in}
 
 -- ---- one place
 
@@ -54,7 +54,7 @@ signature_found es tx i key found_by all sized here =
     (λ e h. same_place_key e.signed.tx tx e.signed.input i e.signed.key key h sized) es all)
     ∙ sym (find_map signed_in (is_at (record { tx = tx; input = i; key = key })) es)
 
--- ---- where signatures are wanted
+-- ---- where signatures are needed
 
 pub some_mapped : {A B : Type 0} (f : A → B) (o : Option A) → is_some o ≡ is_some (option_map f o)
 some_mapped f None = refl
@@ -77,12 +77,12 @@ is_at_turned tx other i j key k =
 pub place_found : (ps : List Place) (g : Signed) (found_by : List ℕ)
     → list_all (λ (p : Place). is_place p.input p.key) ps ≡ true → is_place g.input g.key ≡ true
     → found_by ≡ place_key g.tx g.input g.key
-    → option_map wanted_in (find (λ (p : Place). bytes_eq (place_key p.tx p.input p.key) found_by) ps)
-    ≡ find (λ (w : Wanted). is_at w.spot g) (map wanted_in ps)
+    → option_map required_in (find (λ (p : Place). bytes_eq (place_key p.tx p.input p.key) found_by) ps)
+    ≡ find (λ (w : Required). is_at w.spot g) (map required_in ps)
 place_found ps g found_by all sized here =
-    ap (λ q. option_map wanted_in (find (λ (p : Place). bytes_eq (place_key p.tx p.input p.key) q) ps)) here
-    ∙ ap (option_map wanted_in)
+    ap (λ q. option_map required_in (find (λ (p : Place). bytes_eq (place_key p.tx p.input p.key) q) ps)) here
+    ∙ ap (option_map required_in)
     (find_by (λ (p : Place). bytes_eq (place_key p.tx p.input p.key) (place_key g.tx g.input g.key))
-    (λ (p : Place). is_at (wanted_in p).spot g) (λ (p : Place). is_place p.input p.key)
+    (λ (p : Place). is_at (required_in p).spot g) (λ (p : Place). is_place p.input p.key)
     (λ p h. same_place_key p.tx g.tx p.input g.input p.key g.key h sized ∙ is_at_turned p.tx g.tx p.input g.input p.key g.key) ps all)
-    ∙ sym (find_map wanted_in (λ (w : Wanted). is_at w.spot g) ps)
+    ∙ sym (find_map required_in (λ (w : Required). is_at w.spot g) ps)

@@ -1,8 +1,8 @@
--- The byte strings by which signatures and where they are wanted are found.
+-- The byte strings by which signatures and where they are needed are found.
 use Rattle.std.specs.Prelude.{ℕ, ◌^◌, List, ◌++◌, length, Bool, ◌&&◌, ◌==◌, nat_lt}
 use Rattle.spec_bitcoin.specs.Spelling.{word}
 use Rattle.spec_deal.specs.declared.signed.Signed.{Signed}
-use Rattle.spec_deal.specs.Transactions.{Spot, Wanted}
+use Rattle.spec_deal.specs.Transactions.{Spot, Required}
 
 -- a signature of an input of the transaction with these bytes
 abbrev pub signed_by : List ℕ → ℕ → List ℕ → List ℕ → Signed
@@ -13,8 +13,8 @@ abbrev pub spot_of : List ℕ → ℕ → List ℕ → Spot
 spot_of tx input key = record { tx = tx; input = input; key = key }
 
 -- and the digest that is signed there
-abbrev pub wanted_at : List ℕ → ℕ → List ℕ → List ℕ → Wanted
-wanted_at tx input key digest = record { spot = spot_of tx input key; digest = digest }
+abbrev pub required_at : List ℕ → ℕ → List ℕ → List ℕ → Required
+required_at tx input key digest = record { spot = spot_of tx input key; digest = digest }
 
 -- the number of the input, the key and the bytes of the transaction
 abbrev pub place_key : List ℕ → ℕ → List ℕ → List ℕ

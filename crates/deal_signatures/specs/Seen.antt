@@ -2,16 +2,16 @@
 use Rattle.std.specs.Prelude.{ℕ, ◌+◌, List, [], ◌∷◌}
 use Rattle.spec_deal.specs.declared.signed.Signed.{Signed}
 use Rattle.spec_deal.specs.declared.transaction.Transaction.{Transaction}
-use Rattle.spec_deal.specs.Transactions.{Wanted}
+use Rattle.spec_deal.specs.Transactions.{Required}
 use Rattle.deal_signatures.specs.declared.given.Entry.{Entry}
-use Rattle.deal_signatures.specs.declared.wanted.Place.{Place}
+use Rattle.deal_signatures.specs.declared.required.Place.{Place}
 use Rattle.deal_signatures.specs.declared.known.Known.{Known}
 
 abbrev pub signed_in : Entry → Signed
 signed_in entry = entry.signed
 
-abbrev pub wanted_in : Place → Wanted
-wanted_in place = record { spot = record { tx = place.tx; input = place.input; key = place.key }; digest = place.digest }
+abbrev pub required_in : Place → Required
+required_in place = record { spot = record { tx = place.tx; input = place.input; key = place.key }; digest = place.digest }
 
 abbrev pub known_in : Known → List ℕ × ℕ
 known_in known = (known.bytes, known.number)

@@ -12,7 +12,7 @@ use std::alloc::{AllocError, AllocFailed};
 pub enum SignatureError {
     /// It is refused for this.
     Refused(SignatureFault),
-    /// Want of memory.
+    /// Out of memory.
     Memory,
 }
 

@@ -7,9 +7,9 @@ ghost use Rattle.deal_signatures.specs.Gives.{Takes, one_or_none};
 
 use crate::error::LineError;
 use crate::given::Given;
+use crate::required::{Outstanding, narrow};
 use crate::same::{final_signature, script_fits, spent_fits};
 use crate::taking::{take_signature, take_signatures};
-use crate::wanted::{Wanting, narrow};
 use spec_data::Bytes;
 use spec_deal::{Input, SignatureReason};
 use spec_tool::PsbtInput;
@@ -18,19 +18,19 @@ use std::alloc::Global;
 // The signature of a final witness, if there is one.
 fn take_final(
     alloc: Global,
-    wanted: &Wanting,
+    required: &Outstanding,
     given: &mut Given,
     tx: &[u8],
     number: u32,
     last: Option<([u8; 33], &Bytes)>,
 ) -> Result<(), LineError>
     ensures { Takes given.old given.new result
-        (spec.take_signatures secp256k1 wanted.now tx.now number given.old (one_or_none (option_map (λ p. (p.0, p.1.now)) last.entry))) }
+        (spec.take_signatures secp256k1 required.now tx.now number given.old (one_or_none (option_map (λ p. (p.0, p.1.now)) last.entry))) }
 {
     match last {
         Some(last) => {
             let key = last.0;
-            take_signature(alloc, wanted, given, tx, number, &key, last.1.as_slice())
+            take_signature(alloc, required, given, tx, number, &key, last.1.as_slice())
         }
         None => Ok(()),
     }
@@ -39,18 +39,18 @@ fn take_final(
 // The signatures of an input's records, and then that of its final witness.
 fn take_fitting(
     alloc: Global,
-    wanted: &Wanting,
+    required: &Outstanding,
     given: &mut Given,
     tx: &[u8],
     number: u32,
     pairs: &[([u8; 33], Bytes)],
     last: Option<([u8; 33], &Bytes)>,
 ) -> Result<(), LineError>
-    ensures { Takes given.old given.new result (spec.take_signatures secp256k1 wanted.now tx.now number given.old
+    ensures { Takes given.old given.new result (spec.take_signatures secp256k1 required.now tx.now number given.old
         (pairs.now ++ one_or_none (option_map (λ p. (p.0, p.1.now)) last.entry))) }
 {
-    match take_signatures(alloc, wanted, given, tx, number, pairs) {
-        Ok(()) => take_final(alloc, wanted, given, tx, number, last),
+    match take_signatures(alloc, required, given, tx, number, pairs) {
+        Ok(()) => take_final(alloc, required, given, tx, number, last),
         Err(error) => Err(error),
     }
 }
@@ -58,7 +58,7 @@ fn take_fitting(
 // The signatures of an input, those of its records first.
 fn take_input(
     alloc: Global,
-    wanted: &Wanting,
+    required: &Outstanding,
     given: &mut Given,
     tx: &[u8],
     number: u32,
@@ -66,7 +66,7 @@ fn take_input(
     said: &PsbtInput,
 ) -> Result<(), LineError>
     ensures { Takes given.old given.new result
-        (spec.take_input secp256k1 wanted.now tx.now number given.old input.now said.now) }
+        (spec.take_input secp256k1 required.now tx.now number given.old input.now said.now) }
 {
     let script = input.spent.script.as_slice();
     if !spent_fits(&input.output, &said.spent) {
@@ -80,7 +80,7 @@ fn take_input(
     };
     take_fitting(
         alloc,
-        wanted,
+        required,
         given,
         tx,
         number,
@@ -92,21 +92,21 @@ fn take_input(
 /// The signatures of the inputs in order, as far as something is said of them.
 pub(crate) fn take_inputs(
     alloc: Global,
-    wanted: &Wanting,
+    required: &Outstanding,
     given: &mut Given,
     tx: &[u8],
     inputs: &[Input],
     said: &[PsbtInput],
 ) -> Result<(), LineError>
     ensures { Takes given.old given.new result
-        (spec.take_inputs secp256k1 wanted.now tx.now 0 given.old inputs.now said.now) }
+        (spec.take_inputs secp256k1 required.now tx.now 0 given.old inputs.now said.now) }
 {
     let mut rest = said;
     for (number, input) in inputs.iter().enumerate() {
         let Some((first, after)) = rest.split_first() else {
             return Ok(());
         };
-        take_input(alloc, wanted, given, tx, narrow(number)?, input, first)?;
+        take_input(alloc, required, given, tx, narrow(number)?, input, first)?;
         rest = after;
     }
     Ok(())

@@ -10,10 +10,10 @@ mod numbers;
 mod places;
 mod reading;
 mod refusals;
+mod required;
 mod same;
 mod shape;
 mod taking;
-mod wanted;
 
 pub use error::SignatureError;
 pub use given::Given;

@@ -4,7 +4,7 @@ ghost use Rattle.std.specs.Prelude.{◌≡◌, ◌≤◌, [], length, map, optio
 ghost use Rattle.spec_text.specs.Lines.{lines_of, words_of};
 ghost use Rattle.spec_tool.specs.Base64.{base64_bytes};
 ghost use Rattle.spec_deal.specs.Sizes.{most_signature_bytes};
-ghost use Rattle.spec_deal.specs.Transactions.{all_wanted};
+ghost use Rattle.spec_deal.specs.Transactions.{all_required};
 ghost use Rattle.spec_deal.specs.SignatureFile as spec;
 ghost use Rattle.spec_deal.specs.Verifier.{secp256k1};
 ghost use Rattle.deal_signatures.specs.Seen.{known_in, numbered};
@@ -14,7 +14,7 @@ use crate::error::{LineError, SignatureError};
 use crate::given::Given;
 use crate::inputs::take_inputs;
 use crate::known::{Known, known_by, transaction_of};
-use crate::wanted::Wanting;
+use crate::required::Outstanding;
 use bm_psbt::{Base64Error, Psbt, PsbtError, decode, read_base64};
 use bm_runfile::{first_line, words_of};
 use bm_tx::encode_stripped;
@@ -30,19 +30,19 @@ fn take_psbt(
     alloc: Global,
     transactions: &[Transaction],
     known: &Indexed<Known>,
-    wanted: &Wanting,
+    required: &Outstanding,
     given: &mut Given,
     psbt: &Psbt,
 ) -> Result<(), LineError>
     requires known { map known_in known.now ≡ numbered 0 transactions.now }
-    requires wanted { wanted.now ≡ all_wanted transactions.now }
+    requires required { required.now ≡ all_required transactions.now }
     ensures { Takes given.old given.new result (spec.take_psbt secp256k1 transactions.now given.old (Some psbt.now)) }
 {
     let bytes = encode_stripped(alloc, psbt.tx())?;
     match transaction_of(transactions, known, &bytes) {
         Some(found) => take_inputs(
             alloc,
-            wanted,
+            required,
             given,
             &bytes,
             found.inputs.as_slice(),
@@ -57,16 +57,16 @@ fn take_bytes(
     alloc: Global,
     transactions: &[Transaction],
     known: &Indexed<Known>,
-    wanted: &Wanting,
+    required: &Outstanding,
     given: &mut Given,
     bytes: &[u8],
 ) -> Result<(), LineError>
     requires known { map known_in known.now ≡ numbered 0 transactions.now }
-    requires wanted { wanted.now ≡ all_wanted transactions.now }
+    requires required { required.now ≡ all_required transactions.now }
     ensures { Takes given.old given.new result (spec.take_bytes secp256k1 transactions.now given.old (Some bytes.now)) }
 {
     match decode(alloc, bytes) {
-        Ok(psbt) => take_psbt(alloc, transactions, known, wanted, given, &psbt),
+        Ok(psbt) => take_psbt(alloc, transactions, known, required, given, &psbt),
         Err(PsbtError::BadPsbt) => Err(LineError::Bad(SignatureReason::Form)),
         Err(PsbtError::Memory) => Err(LineError::Memory),
     }
@@ -77,16 +77,16 @@ fn take_word(
     alloc: Global,
     transactions: &[Transaction],
     known: &Indexed<Known>,
-    wanted: &Wanting,
+    required: &Outstanding,
     given: &mut Given,
     word: &[u8],
 ) -> Result<(), LineError>
     requires known { map known_in known.now ≡ numbered 0 transactions.now }
-    requires wanted { wanted.now ≡ all_wanted transactions.now }
+    requires required { required.now ≡ all_required transactions.now }
     ensures { Takes given.old given.new result (spec.take_bytes secp256k1 transactions.now given.old (base64_bytes word.now)) }
 {
     match read_base64(alloc, word) {
-        Ok(bytes) => take_bytes(alloc, transactions, known, wanted, given, &bytes),
+        Ok(bytes) => take_bytes(alloc, transactions, known, required, given, &bytes),
         Err(Base64Error::Bad) => Err(LineError::Bad(SignatureReason::Base64)),
         Err(Base64Error::Memory) => Err(LineError::Memory),
     }
@@ -97,18 +97,18 @@ fn take_line(
     alloc: Global,
     transactions: &[Transaction],
     known: &Indexed<Known>,
-    wanted: &Wanting,
+    required: &Outstanding,
     given: &mut Given,
     line: &[u8],
 ) -> Result<(), LineError>
     requires known { map known_in known.now ≡ numbered 0 transactions.now }
-    requires wanted { wanted.now ≡ all_wanted transactions.now }
+    requires required { required.now ≡ all_required transactions.now }
     ensures { Takes given.old given.new result (spec.take_words secp256k1 transactions.now given.old (words_of line.now)) }
 {
     let words = words_of(alloc, line)?;
     match words.as_slice() {
         [] => Ok(()),
-        [word] => take_word(alloc, transactions, known, wanted, given, word),
+        [word] => take_word(alloc, transactions, known, required, given, word),
         _ => Err(LineError::Bad(SignatureReason::Base64)),
     }
 }
@@ -132,13 +132,13 @@ fn read_lines(
     ensures { Gives (λ given. given) result (spec.take_lines secp256k1 transactions.now [] 1 (lines_of text.now)) }
 {
     let known = known_by(alloc, transactions)?;
-    let wanted = Wanting::by(alloc, transactions)?;
+    let required = Outstanding::by(alloc, transactions)?;
     let mut given = Given::new(alloc);
     let mut rest = text;
     let mut line = 1u32;
     while !rest.is_empty() {
-        let (front, more) = first_line(rest);
-        if let Err(error) = take_line(alloc, transactions, &known, &wanted, &mut given, front) {
+        let (prefix, more) = first_line(rest);
+        if let Err(error) = take_line(alloc, transactions, &known, &required, &mut given, prefix) {
             return Err(at_line(error, line));
         }
         rest = more;

@@ -37,7 +37,7 @@ pub(crate) fn script_fits(script: &[u8], said: &Option<Bytes>) -> bool
 }
 
 // The first bytes, this many or all.
-fn front(bytes: &[u8], count: usize) -> &[u8]
+fn prefix(bytes: &[u8], count: usize) -> &[u8]
     ensures { result.now ≡ take count bytes.now }
 {
     &bytes[..count.min(bytes.len())]
@@ -54,7 +54,7 @@ fn behind(bytes: &[u8], count: usize) -> &[u8]
 fn script_key(script: &[u8]) -> &[u8]
     ensures { result.now ≡ spec.script_key script.now }
 {
-    front(behind(script, 1), 33)
+    prefix(behind(script, 1), 33)
 }
 
 // The key of a script that is a push of a key, and CHECKSIG.

@@ -19,7 +19,7 @@ fn byte_at(bytes: &[u8], place: usize) -> u8
 }
 
 // The first bytes, this many or all.
-fn front(bytes: &[u8], count: usize) -> &[u8]
+fn prefix(bytes: &[u8], count: usize) -> &[u8]
     ensures { result.now ≡ take count bytes.now }
 {
     &bytes[..count.min(bytes.len())]
@@ -36,7 +36,7 @@ fn behind(bytes: &[u8], count: usize) -> &[u8]
 fn r_of(signature: &[u8]) -> &[u8]
     ensures { result.now ≡ spec.r_of signature.now }
 {
-    front(behind(signature, 4), byte_at(signature, 3) as usize)
+    prefix(behind(signature, 4), byte_at(signature, 3) as usize)
 }
 
 // The S that a signature's counts delimit.
@@ -45,7 +45,7 @@ fn s_of(signature: &[u8]) -> &[u8]
 {
     let count = r_of(signature).len();
     let rest = behind(signature, count + 5);
-    front(behind(signature, count + 6), byte_at(rest, 0) as usize)
+    prefix(behind(signature, count + 6), byte_at(rest, 0) as usize)
 }
 
 // The signature of R and S, with the byte of the hash type ALL.

@@ -20,9 +20,9 @@ use Rattle.theory_picture.proofs.Lines.{lines_then}
 pub no_rest : (xs : List ℕ) → xs ++ [] ≡ xs
 no_rest xs = append-nil xs
 
--- the front of the rows as they are seen
-pub front_of_folds : (n : ℕ) (xs : List Fold) → map fold_of (take n xs) ≡ take n (map fold_of xs)
-front_of_folds n xs = sym (take-map fold_of n xs)
+-- the prefix of the rows as they are seen
+pub prefix_of_folds : (n : ℕ) (xs : List Fold) → map fold_of (take n xs) ≡ take n (map fold_of xs)
+prefix_of_folds n xs = sym (take-map fold_of n xs)
 
 pub none_there : (p : List PathStep) → length p ≡ 0 → p ≡ []
 none_there [] h = refl

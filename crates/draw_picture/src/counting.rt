@@ -1,4 +1,4 @@
-//! Numbers of rows, of letters and of events. One that is too great for its type is taken for want of memory.
+//! Numbers of rows, of letters and of events. One that is too great for its type counts as out of memory.
 
 ghost use Rattle.std.specs.Prelude.{◌≡◌, ◌+◌, IfOk};
 

@@ -18,7 +18,7 @@ use crate::lanes::put_lanes;
 use crate::legend::{put_heading, put_legend};
 use crate::placing::{offered_by, takes_of};
 use crate::run_rows::{put_folds, put_last, put_more};
-use crate::styles::put_front;
+use crate::styles::put_at_head;
 use crate::walking::rows_of;
 use bm_syntax::{Advert, Path, participants};
 use bm_text::put;
@@ -189,7 +189,7 @@ fn all_drawn(alloc: Global, title: &[u8], s: &Scene<'_>) -> Result<Vec<u8>, OutO
     let wide = wide_of(s)?;
     let high = plus(last_event(s)?, 13)?;
     let mut out = Vec::new(alloc);
-    put_front(alloc, &mut out, wide, high, title)?;
+    put_at_head(alloc, &mut out, wide, high, title)?;
     put_groups(alloc, &mut out, wide, s)?;
     put(&mut out, b"</svg>\n")?;
     Ok(out)
@@ -212,7 +212,7 @@ fn picture(
 /// The picture of a contract and of the events of a run with it, as SVG, under this title: the contract's graph from left to right, with
 /// what the run has reached, and below it lanes for the parties and the ledger, an event a row. It is well-formed XML, and has exactly
 /// one box for each transaction; each event stands in one row, up to four hundred rows. No two texts meet, and none leaves the picture.
-/// A picture of more than 2^32 rows, and a contract that holds more than 2^64 satoshi, are taken for want of memory.
+/// A picture of more than 2^32 rows, and a contract that holds more than 2^64 satoshi, count as out of memory.
 pub fn draw(
     alloc: Global,
     title: &[u8],

@@ -208,8 +208,8 @@ fn folded<'a>(alloc: Global, entries: &'a [Entry]) -> Result<Vec<Fold<'a>>, OutO
 }
 
 // Leaves at most so many rows.
-#[tactic(auto, using(crate::proofs::Whole::front_of_folds))]
-fn keep_front(rows: &mut Vec<Fold<'_>>, most: usize)
+#[tactic(auto, using(crate::proofs::Whole::prefix_of_folds))]
+fn keep_prefix(rows: &mut Vec<Fold<'_>>, most: usize)
     ensures { map fold_of rows.new.items ≡ take most (map fold_of rows.old.items) }
 {
     rows.truncate(most);
@@ -223,7 +223,7 @@ pub(crate) fn drawn_rows<'a>(
     ensures { IfOk result (λ rows. map fold_of rows.items ≡ spec.drawn_rows entries.now) }
 {
     let mut rows = folded(alloc, entries)?;
-    keep_front(&mut rows, 400);
+    keep_prefix(&mut rows, 400);
     Ok(rows)
 }
 

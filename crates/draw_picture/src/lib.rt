@@ -1,4 +1,4 @@
-//! The picture of a contract and of a run with it, as SVG.
+//! Writes the picture of a contract and a run as SVG: the graph of the transactions above, the events in lanes below.
 #![tactic(auto)]
 
 mod counting;

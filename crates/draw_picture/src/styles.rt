@@ -103,7 +103,7 @@ fn put_paper(out: &mut Vec<u8>) -> Result<(), OutOfMemory>
 
 /// All that stands before the groups of a picture that is so many letters wide and so many rows high.
 #[tactic(auto, using(std::proofs::Common::append_assoc))]
-pub(crate) fn put_front(
+pub(crate) fn put_at_head(
     alloc: Global,
     out: &mut Vec<u8>,
     wide: u32,

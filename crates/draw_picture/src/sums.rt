@@ -1,4 +1,4 @@
-//! What a contract holds, in satoshi. A sum of more than 64 bits is taken for want of memory.
+//! What a contract holds, in satoshi. A sum of more than 64 bits counts as out of memory.
 
 ghost use Rattle.std.specs.Prelude.{◌≡◌, [], ◌∷◌, IfOk};
 ghost use Rattle.spec_data.specs.Lists.{look_up};

@@ -65,7 +65,7 @@ pub(crate) fn put_made(
     out: &mut Vec<u8>,
     output: Option<u32>,
 ) -> Result<(), OutOfMemory>
-    ensures { OnOk result (out.new.items ≡ out.old.items ++ spec.made_text output) }
+    ensures { OnOk result (out.new.items ≡ out.old.items ++ spec.generated_text output) }
 {
     match output {
         None => Ok(()),

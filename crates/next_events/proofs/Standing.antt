@@ -9,7 +9,7 @@ use Rattle.spec_calculus.specs.declared.parts.ActiveContract.{ActiveContract}
 use Rattle.spec_calculus.specs.Beginning.{contract_at, pre_of}
 use Rattle.spec_calculus.specs.Branches.{branch_of, branch_in}
 use Rattle.spec_calculus.specs.Configuration.{Configuration}
-use Rattle.spec_next.specs.Wants.{Condition, unmet, asked_for, asked_by_branch, undecided_or_true}
+use Rattle.spec_next.specs.Requirements.{Condition, unmet, asked_for, asked_by_branch, undecided_or_true}
 use Rattle.bm_calculus.specs.Answers.{parts_of}
 use Rattle.bm_calculus.specs.Undecided.{may_hold_at}
 

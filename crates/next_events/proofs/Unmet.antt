@@ -1,12 +1,12 @@
--- What is wanting for conditions that are joined.
+-- What is missing for conditions that are joined.
 use Rattle.std.proofs.Common.{◌≡◌, List, [], ◌∷◌, ◌++◌, map, Bool, true, false, refl, sym, ap, ◌∙◌, append_assoc, append-nil}
 use Rattle.std.specs.Prelude.{not, if◌then◌else◌}
 use Rattle.std.specs.List.{filter}
-use Rattle.spec_next.specs.declared.want.Want.{Want}
-use Rattle.spec_next.specs.Wants.{Condition, unmet}
+use Rattle.spec_next.specs.declared.requirement.Requirement.{Requirement}
+use Rattle.spec_next.specs.Requirements.{Condition, unmet}
 
--- no want more
-pub nothing_more : (xs : List Want) → xs ++ [] ≡ xs
+-- no need more
+pub nothing_more : (xs : List Requirement) → xs ++ [] ≡ xs
 nothing_more xs = append-nil xs
 
 -- those that aren't met
@@ -24,8 +24,8 @@ unmet_first c cs = by_test (c.0)
 pub unmet_append : (xs ys : List Condition) → unmet (xs ++ ys) ≡ unmet xs ++ unmet ys
 unmet_append [] ys = refl
 unmet_append (x ∷ xs) ys =
-    unmet_first x (xs ++ ys) ∙ ap (λ (ws : List Want). unmet (x ∷ []) ++ ws) (unmet_append xs ys)
+    unmet_first x (xs ++ ys) ∙ ap (λ (ws : List Requirement). unmet (x ∷ []) ++ ws) (unmet_append xs ys)
     ∙ append_first (unmet (x ∷ [])) (unmet xs) (unmet ys) (unmet (x ∷ xs)) (unmet_first x xs)
   where
-    append_first : (a b c d : List Want) → d ≡ a ++ b → a ++ (b ++ c) ≡ d ++ c
-    append_first a b c d h = sym (append_assoc a b c) ∙ ap (λ (ws : List Want). ws ++ c) (sym h)
+    append_first : (a b c d : List Requirement) → d ≡ a ++ b → a ++ (b ++ c) ≡ d ++ c
+    append_first a b c d h = sym (append_assoc a b c) ∙ ap (λ (ws : List Requirement). ws ++ c) (sym h)

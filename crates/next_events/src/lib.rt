@@ -1,19 +1,18 @@
-//! The events that may come next of a contract, as far as the configuration of a run tells them; and what is wanting for an event: the
-//! conditions of the calculus that fail.
+//! Lists the events that may come next for a contract, and for each the conditions of the calculus that fail.
 #![tactic(auto)]
 
 mod binding;
 mod opening;
+mod outstanding;
+mod outstanding_before;
+mod outstanding_branch;
+mod outstanding_reveal;
 mod taking;
-mod wanting;
-mod wanting_before;
-mod wanting_branch;
-mod wanting_reveal;
 
 pub use binding::advertising;
 pub use opening::{put_committing, put_revealing, put_starting};
+pub use outstanding::put_unless;
+pub use outstanding_before::{put_agreed, put_digests, put_started, put_unbound};
+pub use outstanding_branch::put_branch;
+pub use outstanding_reveal::put_begun;
 pub use taking::put_actives;
-pub use wanting::put_unless;
-pub use wanting_before::{put_agreed, put_digests, put_started, put_unbound};
-pub use wanting_branch::put_branch;
-pub use wanting_reveal::put_begun;

@@ -12,7 +12,7 @@ use Rattle.spec_run.specs.declared.outcome.Record.{Record}
 use Rattle.spec_run.specs.Conditions.{IsEvent}
 use Rattle.spec_run.specs.Setup.{Setup}
 use Rattle.spec_run.specs.World.{World}
-use Rattle.spec_run.specs.Event.{draft}
+use Rattle.spec_run.specs.Event.{pending}
 use Rattle.spec_next.specs.declared.outlook.Prospect.{Prospect}
 use Rattle.spec_next.specs.declared.outlook.Outlook.{Outlook}
 use Rattle.spec_next.specs.Candidates.{candidates, candidates_from}
@@ -43,8 +43,8 @@ module _ {H : Type 0} (digest : H → List ℕ → List ℕ) (g : Configuration)
     abbrev w : World
     w = old.world
 
-    strings_cut : foreseen_strings s w (e ∷ left) ≡ (draft s w e).hashes ++ foreseen_strings s w left
-    strings_cut = flat_map-cons (λ (x : Event). (draft s w x).hashes) e left
+    strings_cut : foreseen_strings s w (e ∷ left) ≡ (pending s w e).hashes ++ foreseen_strings s w left
+    strings_cut = flat_map-cons (λ (x : Event). (pending s w x).hashes) e left
 
     pub is_event : IsEvent (setup_in digest mid) e
     is_event = subst (λ (t : Setup). IsEvent t e) (sym (setup_same digest old mid m.reach.hears.setup)) m.are.0
@@ -64,7 +64,7 @@ module _ {H : Type 0} (digest : H → List ℕ → List ℕ) (g : Configuration)
       are = m.are.1;
     }
 
-    pub stops_event : (new : Played H) (halt : Halt) → Stopped digest mid new (draft (setup_in digest mid) mid.world e).hashes halt
+    pub stops_event : (new : Played H) (halt : Halt) → Stopped digest mid new (pending (setup_in digest mid) mid.world e).hashes halt
         → Stopped digest old new (foreseen_strings s w all) halt
     stops_event new halt h =
         reach_stopped digest old mid new _ _ _ _ _ m.reach strings_cut (hashes_later digest g old mid mid.world.hashed m.reach.hears e) halt h
@@ -88,7 +88,7 @@ module _ {H : Type 0} (digest : H → List ℕ → List ℕ) (g : Configuration)
 
     contracts_cut : foreseen_strings t v (candidates_from t g v k (c ∷ left))
         ≡ foreseen_strings t v (candidates t g v k c) ++ foreseen_strings t v (candidates_from t g v (k + 1) left)
-    contracts_cut = flat_map-append (λ (x : Event). (draft t v x).hashes) (candidates t g v k c) (candidates_from t g v (k + 1) left)
+    contracts_cut = flat_map-append (λ (x : Event). (pending t v x).hashes) (candidates t g v k c) (candidates_from t g v (k + 1) left)
 
     here_same : foreseen_strings (setup_in digest mid) mid.world (candidates (setup_in digest mid) g mid.world k c)
         ≡ foreseen_strings t v (candidates t g v k c)

@@ -13,18 +13,18 @@ use Rattle.spec_run.specs.declared.header.HeldSecret.{HeldSecret}
 use Rattle.spec_run.specs.Setup.{Setup, held_secret}
 use Rattle.spec_run.specs.World.{World}
 use Rattle.spec_run.specs.Compiled.{compiled_instance}
-use Rattle.spec_run.specs.Draft.{Draft, guess, settle}
-use Rattle.spec_run.specs.Event.{draft}
+use Rattle.spec_run.specs.Pending.{Pending, guess, apply}
+use Rattle.spec_run.specs.Event.{pending}
 use Rattle.spec_next.specs.declared.outlook.Ruling.{Ruling}
 use Rattle.spec_next.specs.declared.outlook.Ruling.TheVariants as rulings
 use Rattle.spec_next.specs.declared.outlook.Prospect.{Prospect}
 use Rattle.spec_next.specs.Candidates.{people, advertising, committing, has_endorsed, endorsing, starting, revealing, taking_active, actives_of}
 use Rattle.spec_next.specs.Candidates.{candidates, candidates_from}
-use Rattle.spec_next.specs.Wants.{Condition, agreed, endorsed_for, conditions, unmet, wants_of}
-use Rattle.spec_next.specs.Prospects.{is_string_posted, is_ahead, is_shown, ruling_of, wants_by, outlook_by}
+use Rattle.spec_next.specs.Requirements.{Condition, agreed, endorsed_for, conditions, unmet, requirements_of}
+use Rattle.spec_next.specs.Prospects.{is_string_posted, is_ahead, is_shown, ruling_of, requirements_by, outlook_by}
 use Rattle.spec_next.specs.Foreseen.{foreseen_strings}
 use Rattle.theory_world.proofs.Bookless.{compiled_same}
-use Rattle.theory_run.proofs.Events.Hashless.{carried, draft_same}
+use Rattle.theory_run.proofs.Events.Hashless.{carried, pending_same}
 use Rattle.bm_world.specs.Playing.{Played, setup_in}
 use Rattle.bm_world_heard.specs.Heard.{Hears}
 use Rattle.next_outlook.specs.Foretold.{calm_ruling, told, foretold, all_foretold, foretold_outlook}
@@ -67,7 +67,7 @@ module _ (s : Setup) (g : Configuration) (w : World) (hs : List (List ℕ)) wher
   from_same k [] = refl
   from_same k (c ∷ cs) = λ i. candidates_same k c i ++ from_same (k + 1) cs i
 
-  -- ---- what is wanting
+  -- ---- what is missing
 
   for_same : (k : ℕ) (party : List ℕ) (o : Option Instance) (ps : List (List ℕ)) → endorsed_for s more k party o ps ≡ endorsed_for s w k party o ps
   for_same k party None ps = refl
@@ -91,8 +91,8 @@ module _ (s : Setup) (g : Configuration) (w : World) (hs : List (List ℕ)) wher
   conditions_same (events.Append bytes) = refl
   conditions_same (events.Mine blocks) = refl
 
-  wants_same : (e : Event) → wants_of s g more e ≡ wants_of s g w e
-  wants_same e = ap unmet (conditions_same e)
+  requirements_same : (e : Event) → requirements_of s g more e ≡ requirements_of s g w e
+  requirements_same e = ap unmet (conditions_same e)
 
   -- ---- what is shown
 
@@ -122,18 +122,18 @@ module _ (s : Setup) (g : Configuration) (w : World) (hs : List (List ℕ)) wher
 
   -- ---- rulings
 
-  ruling_carried : (d : Draft) (o : Option HeldSecret) → ruling_of (settle more (carried hs d) None o) ≡ ruling_of (settle w d None o)
+  ruling_carried : (d : Pending) (o : Option HeldSecret) → ruling_of (apply more (carried hs d) None o) ≡ ruling_of (apply w d None o)
   ruling_carried d None = refl
   ruling_carried d (Some held) = refl
 
   ruling_same : (e : Event) → calm_ruling s more e ≡ calm_ruling s w e
   ruling_same e =
-      ap (λ (d : Draft). ruling_of (settle more d None (guess s w.posted d.posts d.allowed))) (draft_same s w hs e)
-      ∙ ruling_carried (draft s w e) (guess s w.posted (draft s w e).posts (draft s w e).allowed)
+      ap (λ (d : Pending). ruling_of (apply more d None (guess s w.posted d.posts d.allowed))) (pending_same s w hs e)
+      ∙ ruling_carried (pending s w e) (guess s w.posted (pending s w e).posts (pending s w e).allowed)
 
   told_same : (e : Event) (r : Ruling) → told s g more e r ≡ told s g w e r
   told_same e r =
-      λ i. if shown_same e r i then record { event = e; ruling = r; wants = wants_by (wants_same e i) r } ∷ [] else []
+      λ i. if shown_same e r i then record { event = e; ruling = r; requirements = requirements_by (requirements_same e i) r } ∷ [] else []
 
   foretold_same : (e : Event) → foretold s g more e ≡ foretold s g w e
   foretold_same e = told_same e (calm_ruling s more e) ∙ ap (told s g w e) (ruling_same e)
@@ -147,8 +147,8 @@ module _ (s : Setup) (g : Configuration) (w : World) (hs : List (List ℕ)) wher
 
   -- ---- strings
 
-  hashes_same : (e : Event) → (draft s more e).hashes ≡ (draft s w e).hashes
-  hashes_same e = ap (λ (d : Draft). d.hashes) (draft_same s w hs e)
+  hashes_same : (e : Event) → (pending s more e).hashes ≡ (pending s w e).hashes
+  hashes_same e = ap (λ (d : Pending). d.hashes) (pending_same s w hs e)
 
   strings_same : (es : List Event) → foreseen_strings s more es ≡ foreseen_strings s w es
   strings_same es = λ i. flat_map (λ e. hashes_same e i) es
@@ -159,8 +159,8 @@ module _ {H : Type 0} (digest : H → List ℕ → List ℕ) (g : Configuration)
   same : setup_in digest mid ≡ setup_in digest old
   same = setup_same digest old mid h.setup
 
-  pub hashes_later : (e : Event) → (draft (setup_in digest mid) mid.world e).hashes ≡ (draft (setup_in digest old) old.world e).hashes
-  hashes_later e = (λ i. (draft (same i) (h.world i) e).hashes) ∙ hashes_same (setup_in digest old) g old.world hashed e
+  pub hashes_later : (e : Event) → (pending (setup_in digest mid) mid.world e).hashes ≡ (pending (setup_in digest old) old.world e).hashes
+  hashes_later e = (λ i. (pending (same i) (h.world i) e).hashes) ∙ hashes_same (setup_in digest old) g old.world hashed e
 
   pub foretold_later : (e : Event) → foretold (setup_in digest mid) g mid.world e ≡ foretold (setup_in digest old) g old.world e
   foretold_later e = (λ i. foretold (same i) g (h.world i) e) ∙ foretold_same (setup_in digest old) g old.world hashed e

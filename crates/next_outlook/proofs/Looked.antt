@@ -4,19 +4,19 @@ use Rattle.std.specs.Prelude.{filter, if◌then◌else◌, IfOk}
 use Rattle.std.specs.Option.{option_or}
 use Rattle.std.proofs.lemmas.Grind.{flat_map-append}
 use Rattle.std.proofs.lemmas.List.Concat.{flat_map-cons}
-use Rattle.spec_data.specs.Messages.{noted, noted_all, clash, collision}
+use Rattle.spec_data.specs.Messages.{noted, noted_all, collision_with, collision}
 use Rattle.spec_terms.specs.Advert.{Advert}
 use Rattle.spec_terms.specs.Parties.{participants}
 use Rattle.spec_calculus.specs.Configuration.{Configuration}
 use Rattle.spec_run.specs.declared.event.Event.{Event}
 use Rattle.spec_run.specs.Setup.{Setup}
 use Rattle.spec_run.specs.World.{World}
-use Rattle.spec_run.specs.Draft.{guess, settle}
-use Rattle.spec_run.specs.Event.{draft}
+use Rattle.spec_run.specs.Pending.{guess, apply}
+use Rattle.spec_run.specs.Event.{pending}
 use Rattle.spec_next.specs.declared.outlook.Outlook.{Outlook}
 use Rattle.spec_next.specs.Candidates.{candidates, candidates_from}
-use Rattle.spec_next.specs.Wants.{wants_of}
-use Rattle.spec_next.specs.Prospects.{ruling, ruling_of, is_shown, wants_by, prospect, prospects_of, outlook_by, outlooks_from}
+use Rattle.spec_next.specs.Requirements.{requirements_of}
+use Rattle.spec_next.specs.Prospects.{ruling, ruling_of, is_shown, requirements_by, prospect, prospects_of, outlook_by, outlooks_from}
 use Rattle.spec_next.specs.Foreseen.{foreseen_strings}
 use Rattle.theory_run.proofs.Fewer.{collision_within}
 use Rattle.theory_world.proofs.Hashed.{all_more}
@@ -29,7 +29,7 @@ use Rattle.bm_world_heard.proofs.Hearing.{neither, collision-calm}
 first_calm : (hash : List ℕ → List ℕ) (ms xs ys : List (List ℕ)) → collision hash ms (xs ++ ys) ≡ None → collision hash ms xs ≡ None
 first_calm hash ms [] ys h = refl
 first_calm hash ms (x ∷ xs) ys h =
-    let p = neither (clash hash ms x) (collision hash (noted ms x) (xs ++ ys)) h in
+    let p = neither (collision_with hash ms x) (collision hash (noted ms x) (xs ++ ys)) h in
     ap (λ o. option_or o (collision hash (noted ms x) xs)) p.0 ∙ first_calm hash (noted ms x) xs ys p.1
 
 rest_calm : (hash : List ℕ → List ℕ) (ms xs ys : List (List ℕ)) → collision hash ms (xs ++ ys) ≡ None → collision hash ms ys ≡ None
@@ -38,8 +38,8 @@ rest_calm hash ms xs ys h =
     (sym (collision-calm hash ms xs ys (first_calm hash ms xs ys h)) ∙ h)
 
 module _ (s : Setup) (g : Configuration) (w : World) where
-  ruling_calm : (e : Event) → collision s.hash w.hashed (draft s w e).hashes ≡ None → calm_ruling s w e ≡ ruling s w e
-  ruling_calm e h = ap (λ c. ruling_of (settle w (draft s w e) c (guess s w.posted (draft s w e).posts (draft s w e).allowed))) (sym h)
+  ruling_calm : (e : Event) → collision s.hash w.hashed (pending s w e).hashes ≡ None → calm_ruling s w e ≡ ruling s w e
+  ruling_calm e h = ap (λ c. ruling_of (apply w (pending s w e) c (guess s w.posted (pending s w e).posts (pending s w e).allowed))) (sym h)
 
   abbrev kept : List Event → List Event
   kept es = filter (λ (x : Event). is_shown s w x (ruling s w x)) es
@@ -48,7 +48,8 @@ module _ (s : Setup) (g : Configuration) (w : World) where
   prospect_first e es = by_test (is_shown s w e (ruling s w e))
     where
       by_test : (b : Bool)
-          → (if b then record { event = e; ruling = ruling s w e; wants = wants_by (wants_of s g w e) (ruling s w e) } ∷ [] else []) ++ map (prospect s g w) (kept es)
+          → (if b then record { event = e; ruling = ruling s w e; requirements = requirements_by (requirements_of s g w e) (ruling s w e) }
+          ∷ [] else []) ++ map (prospect s g w) (kept es)
           ≡ map (prospect s g w) (if b then e ∷ kept es else kept es)
       by_test true = refl
       by_test false = refl
@@ -56,9 +57,9 @@ module _ (s : Setup) (g : Configuration) (w : World) where
   prospects_are : (es : List Event) → collision s.hash w.hashed (foreseen_strings s w es) ≡ None → all_foretold s g w es ≡ prospects_of s g w es
   prospects_are [] h = refl
   prospects_are (e ∷ es) h =
-      let d = draft s w e in
+      let d = pending s w e in
       let cut : collision s.hash w.hashed (d.hashes ++ foreseen_strings s w es) ≡ None =
-      ap (collision s.hash w.hashed) (sym (flat_map-cons (λ (x : Event). (draft s w x).hashes) e es)) ∙ h in
+      ap (collision s.hash w.hashed) (sym (flat_map-cons (λ (x : Event). (pending s w x).hashes) e es)) ∙ h in
       flat_map-cons (foretold s g w) e es
       ∙ (λ i. told s g w e (ruling_calm e (first_calm s.hash w.hashed d.hashes (foreseen_strings s w es) cut) i)
       ++ prospects_are es (rest_calm s.hash w.hashed d.hashes (foreseen_strings s w es) cut) i)
@@ -71,7 +72,7 @@ module _ (s : Setup) (g : Configuration) (w : World) where
       let here = candidates s g w k c in
       let later = candidates_from s g w (k + 1) cs in
       let cut : collision s.hash w.hashed (foreseen_strings s w here ++ foreseen_strings s w later) ≡ None =
-      ap (collision s.hash w.hashed) (sym (flat_map-append (λ (x : Event). (draft s w x).hashes) here later)) ∙ h in
+      ap (collision s.hash w.hashed) (sym (flat_map-append (λ (x : Event). (pending s w x).hashes) here later)) ∙ h in
       λ i. outlook_by g (participants c) (prospects_are here (first_calm s.hash w.hashed (foreseen_strings s w here) (foreseen_strings s w later) cut) i)
       ∷ outlooks_are (k + 1) cs (rest_calm s.hash w.hashed (foreseen_strings s w here) (foreseen_strings s w later) cut) i
 

@@ -6,8 +6,8 @@ use Rattle.spec_run.specs.declared.event.Event.{Event}
 use Rattle.spec_run.specs.declared.outcome.Outcome.{Outcome}
 use Rattle.spec_run.specs.Setup.{Setup}
 use Rattle.spec_run.specs.World.{World}
-use Rattle.spec_run.specs.Draft.{Answer, Went, Halted, guess, settle}
-use Rattle.spec_run.specs.Event.{draft, event}
+use Rattle.spec_run.specs.Pending.{Answer, Went, Halted, guess, apply}
+use Rattle.spec_run.specs.Event.{pending, event}
 use Rattle.spec_next.specs.declared.outlook.Ruling.{Ruling}
 use Rattle.spec_next.specs.Prospects.{ruling_of}
 use Rattle.bm_world.specs.Foreseeing.{outcome_in, Foresees}
@@ -21,11 +21,11 @@ ruling_seen (Went d next) = refl
 ruling_seen (Halted halt) = refl
 
 -- its ruling is what it would come to
-ruling_is : (s : Setup) (w : World) (e : Event) → collision s.hash w.hashed (draft s w e).hashes ≡ None
+ruling_is : (s : Setup) (w : World) (e : Event) → collision s.hash w.hashed (pending s w e).hashes ≡ None
     → ruling_in (outcome_in (event s w e)) ≡ calm_ruling s w e
 ruling_is s w e calm =
     ruling_seen (event s w e)
-    ∙ ap (λ c. ruling_of (settle w (draft s w e) c (guess s w.posted (draft s w e).posts (draft s w e).allowed))) calm
+    ∙ ap (λ c. ruling_of (apply w (pending s w e) c (guess s w.posted (pending s w e).posts (pending s w e).allowed))) calm
 
 pub told_there : {H : Type 0} (digest : H → List ℕ → List ℕ) (g : Configuration) (old new : Played H) (e : Event) (outcome : Option Outcome)
     (r : Ruling) → r ≡ ruling_in outcome → Foresees digest old new e outcome

@@ -7,15 +7,15 @@ use Rattle.spec_run.specs.declared.event.Event.{Event}
 use Rattle.spec_run.specs.declared.outcome.Outcome.{Outcome}
 use Rattle.spec_run.specs.Setup.{Setup}
 use Rattle.spec_run.specs.World.{World}
-use Rattle.spec_run.specs.Draft.{guess, settle}
-use Rattle.spec_run.specs.Event.{draft}
+use Rattle.spec_run.specs.Pending.{guess, apply}
+use Rattle.spec_run.specs.Event.{pending}
 use Rattle.spec_next.specs.declared.outlook.Ruling.{Ruling}
 use Rattle.spec_next.specs.declared.outlook.Ruling.TheVariants as rulings
 use Rattle.spec_next.specs.declared.outlook.Prospect.{Prospect}
 use Rattle.spec_next.specs.declared.outlook.Outlook.{Outlook}
 use Rattle.spec_next.specs.Candidates.{candidates}
-use Rattle.spec_next.specs.Wants.{wants_of}
-use Rattle.spec_next.specs.Prospects.{ruling_by, ruling_of, is_shown, wants_by, outlook_by}
+use Rattle.spec_next.specs.Requirements.{requirements_of}
+use Rattle.spec_next.specs.Prospects.{ruling_by, ruling_of, is_shown, requirements_by, outlook_by}
 
 -- the ruling of an outcome; without one the event halts
 abbrev pub ruling_in : Option Outcome → Ruling
@@ -24,11 +24,11 @@ ruling_in (Some outcome) = ruling_by outcome
 
 -- what the event would come to, where its strings collide with none
 abbrev pub calm_ruling : Setup → World → Event → Ruling
-calm_ruling s w e = ruling_of (settle w (draft s w e) None (guess s w.posted (draft s w e).posts (draft s w e).allowed))
+calm_ruling s w e = ruling_of (apply w (pending s w e) None (guess s w.posted (pending s w e).posts (pending s w e).allowed))
 
 -- what is told of an event with this ruling, nothing where it isn't shown
 abbrev pub told : Setup → Configuration → World → Event → Ruling → List Prospect
-told s g w e r = if is_shown s w e r then record { event = e; ruling = r; wants = wants_by (wants_of s g w e) r } ∷ [] else []
+told s g w e r = if is_shown s w e r then record { event = e; ruling = r; requirements = requirements_by (requirements_of s g w e) r } ∷ [] else []
 
 abbrev pub foretold : Setup → Configuration → World → Event → List Prospect
 foretold s g w e = told s g w e (calm_ruling s w e)

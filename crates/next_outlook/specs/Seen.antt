@@ -6,7 +6,7 @@ use Rattle.spec_terms.specs.Advert.{Advert}
 use Rattle.spec_calculus.specs.Configuration.{Configuration}
 use Rattle.spec_run.specs.declared.event.Event.{Event}
 use Rattle.spec_run.specs.Conditions.{IsEvent}
-use Rattle.spec_run.specs.Event.{draft}
+use Rattle.spec_run.specs.Event.{pending}
 use Rattle.spec_next.specs.declared.outlook.Prospect.{Prospect}
 use Rattle.spec_next.specs.declared.outlook.Outlook.{Outlook}
 use Rattle.spec_next.specs.Candidates.{candidates, candidates_from, all_candidates}
@@ -19,7 +19,7 @@ use Rattle.next_outlook.specs.Foretold.{foretold, all_foretold, foretold_outlook
 -- what this event would come to was asked, and was told
 pub record SeesOne {H : Type 0} (digest : H → List ℕ → List ℕ) (old new : Played H) (g : Configuration) (e : Event)
     (before later : List Prospect) : Type 0 where
-  pub calm : Calm digest old new (draft (setup_in digest old) old.world e).hashes
+  pub calm : Calm digest old new (pending (setup_in digest old) old.world e).hashes
   pub told : later ≡ before ++ foretold (setup_in digest old) g old.world e
 
 -- the same of these events

@@ -1,10 +1,10 @@
-//! Which event gives what is wanting.
+//! Which event gives what is missing.
 
 ghost use Rattle.std.specs.Prelude.{◌≡◌};
 ghost use Rattle.spec_next.specs.Prospects as spec;
 
 use spec_data::Name;
-use spec_next::Want;
+use spec_next::Requirement;
 use spec_run::Event;
 
 // Whether an event is this party's commitment to the contract.
@@ -75,20 +75,20 @@ fn is_reveal(event: &Event, party: &Name, contract: u32, secret: &Name) -> bool
     }
 }
 
-/// Whether the event gives what is wanting.
-pub(crate) fn gives(want: &Want, event: &Event) -> bool
-    ensures { result ≡ spec.gives want.now event.now }
+/// Whether the event gives what is missing.
+pub(crate) fn gives(requirement: &Requirement, event: &Event) -> bool
+    ensures { result ≡ spec.gives requirement.now event.now }
 {
-    match want {
-        Want::Commitment { party, contract } => is_commitment(event, party, *contract),
-        Want::Endorsement { party, contract } => is_endorsement(event, party, *contract),
-        Want::Start { party, contract } => is_start(event, party, *contract),
-        Want::Authorisation {
+    match requirement {
+        Requirement::Commitment { party, contract } => is_commitment(event, party, *contract),
+        Requirement::Endorsement { party, contract } => is_endorsement(event, party, *contract),
+        Requirement::Start { party, contract } => is_start(event, party, *contract),
+        Requirement::Authorisation {
             party,
             output,
             branch,
         } => is_authorisation(event, party, *output, *branch),
-        Want::Secret {
+        Requirement::Secret {
             party,
             contract,
             secret,

@@ -1,5 +1,4 @@
-//! What comes next of the contracts of a run: what each event that a contract has ahead would come to, what is wanting for it, and who
-//! can give that now.
+//! Asks the world of a run what would come of each listed event: whether it can come, why not, and whom it waits for.
 #![tactic(auto)]
 
 mod ahead;
@@ -11,7 +10,7 @@ mod looking;
 mod never;
 mod people;
 mod prospects;
+mod requirements;
 mod waits;
-mod wants;
 
 pub use looking::outlooks;

@@ -14,7 +14,7 @@ use std::alloc::Global;
 fn is_lost(prospect: &Prospect) -> bool
     ensures { result ≡ spec.is_lost prospect.now }
 {
-    is_any_never(prospect.wants.as_slice())
+    is_any_never(prospect.requirements.as_slice())
 }
 
 fn is_refused(ruling: &Ruling) -> bool

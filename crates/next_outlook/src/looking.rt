@@ -41,7 +41,7 @@ fn look<H: Hash32 + Drop>(
     requires few { length world.old.trace < most_records }
     ensures sees { OnOk result (SeesOne H.digest_of world.old world.new config.now event.now prospects.old prospects.new) }
     ensures stopped { IfErr result (Stopped H.digest_of world.old world.new
-        (run.draft (setup_in H.digest_of world.old) world.old.world event.now).hashes) }
+        (run.pending (setup_in H.digest_of world.old) world.old.world event.now).hashes) }
 {
     let outcome = world.foresee(event)?;
     match tell(alloc, world, config, prospects, event, &outcome) {
@@ -70,7 +70,7 @@ fn look_all<H: Hash32 + Drop>(
     Ok(prospects)
 }
 
-// What is told of the events that a contract has ahead, and who can give now what is wanting.
+// What is told of the events that a contract has ahead, and who can give now what is missing.
 fn outlook_of(
     alloc: Global,
     config: &Config,
@@ -107,7 +107,7 @@ fn look_contract<H: Hash32 + Drop>(
     }
 }
 
-// The number of the next contract. One of 2^32 is taken for want of memory.
+// The number of the next contract. One of 2^32 counts as out of memory.
 fn next(contract: u32) -> Result<u32, OutOfMemory>
     ensures { IfOk result (λ next. next ≡ contract + 1) }
 {
@@ -169,9 +169,9 @@ fn look_contracts<H: Hash32 + Drop>(
 }
 
 /// What comes next of all contracts of this configuration in this world: what each event that a contract has ahead would come to, what
-/// is wanting for it, and who can give that now. The ledger, the book and the posted strings stay, and the records too; only the strings
+/// is missing for it, and who can give that now. The ledger, the book and the posted strings stay, and the records too; only the strings
 /// of the events are hashed, of which one may collide with another or with a message of the run. A run that has halted is answered by its
-/// halt. A run of 16,000 records or more is taken for want of memory.
+/// halt. A run of 16,000 records or more counts as out of memory.
 pub fn outlooks<H: Hash32 + Drop>(
     alloc: Global,
     world: &mut World<H>,

@@ -5,66 +5,72 @@ ghost use Rattle.std.specs.List.{list_any};
 ghost use Rattle.spec_next.specs.Prospects as spec;
 
 use spec_data::{OutOfMemory, Seq};
-use spec_next::Want;
+use spec_next::Requirement;
 use spec_run::Reason;
 use std::alloc::Global;
 
 // Whether nothing gives it.
-fn is_never(want: &Want) -> bool
-    ensures { result ≡ spec.is_never want.now }
+fn is_never(requirement: &Requirement) -> bool
+    ensures { result ≡ spec.is_never requirement.now }
 {
-    match want {
-        Want::Gone(_) => true,
-        Want::NobodyHonest => true,
-        Want::Missing(_) => true,
-        Want::BadLength(_) => true,
-        Want::Repeated(_) => true,
-        Want::Put(_) => true,
-        Want::Predicate => true,
+    match requirement {
+        Requirement::Gone(_) => true,
+        Requirement::NobodyHonest => true,
+        Requirement::Missing(_) => true,
+        Requirement::BadLength(_) => true,
+        Requirement::Repeated(_) => true,
+        Requirement::Put(_) => true,
+        Requirement::Predicate => true,
         _ => false,
     }
 }
 
 /// Whether nothing gives one of these.
-pub(crate) fn is_any_never(wants: &[Want]) -> bool
-    ensures { result ≡ list_any spec.is_never wants.now }
+pub(crate) fn is_any_never(requirements: &[Requirement]) -> bool
+    ensures { result ≡ list_any spec.is_never requirements.now }
 {
-    wants.iter().any(|want| is_never(want))
+    requirements.iter().any(|requirement| is_never(requirement))
 }
 
 // Those of these that nothing gives.
-fn never_of(alloc: Global, wants: &[Want]) -> Result<Seq<Want>, OutOfMemory>
-    ensures { IfOk result (λ list. list ≡ filter spec.is_never wants.now) }
+fn never_of(alloc: Global, requirements: &[Requirement]) -> Result<Seq<Requirement>, OutOfMemory>
+    ensures { IfOk result (λ list. list ≡ filter spec.is_never requirements.now) }
 {
     let mut list = Seq::new(alloc);
-    for want in wants {
-        if is_never(want) {
-            list.push(want.copy())?;
+    for requirement in requirements {
+        if is_never(requirement) {
+            list.push(requirement.copy())?;
         }
     }
     Ok(list)
 }
 
 /// These, or where nothing gives one of them, those that nothing gives.
-pub(crate) fn decisive(alloc: Global, wants: Seq<Want>) -> Result<Seq<Want>, OutOfMemory>
-    ensures { IfOk result (λ list. list ≡ spec.decisive wants) }
+pub(crate) fn decisive(
+    alloc: Global,
+    requirements: Seq<Requirement>,
+) -> Result<Seq<Requirement>, OutOfMemory>
+    ensures { IfOk result (λ list. list ≡ spec.decisive requirements) }
 {
-    if is_any_never(wants.as_slice()) {
-        return never_of(alloc, wants.as_slice());
+    if is_any_never(requirements.as_slice()) {
+        return never_of(alloc, requirements.as_slice());
     }
-    Ok(wants)
+    Ok(requirements)
 }
 
 /// Adds what stays so of a refusal.
 #[tactic(auto, using(next_events::proofs::Unmet::nothing_more))]
-pub(crate) fn put_lasting(wants: &mut Seq<Want>, reason: &Reason) -> Result<(), OutOfMemory>
-    ensures { OnOk result (wants.new ≡ wants.old ++ spec.lasting reason.now) }
+pub(crate) fn put_lasting(
+    requirements: &mut Seq<Requirement>,
+    reason: &Reason,
+) -> Result<(), OutOfMemory>
+    ensures { OnOk result (requirements.new ≡ requirements.old ++ spec.lasting reason.now) }
 {
     match reason {
-        Reason::NoHonest => wants.push(Want::NobodyHonest),
-        Reason::NoSecret(secret) => wants.push(Want::Missing(*secret)),
-        Reason::BadSecretLength(secret) => wants.push(Want::BadLength(*secret)),
-        Reason::HashRepeated(secret) => wants.push(Want::Repeated(*secret)),
+        Reason::NoHonest => requirements.push(Requirement::NobodyHonest),
+        Reason::NoSecret(secret) => requirements.push(Requirement::Missing(*secret)),
+        Reason::BadSecretLength(secret) => requirements.push(Requirement::BadLength(*secret)),
+        Reason::HashRepeated(secret) => requirements.push(Requirement::Repeated(*secret)),
         _ => Ok(()),
     }
 }

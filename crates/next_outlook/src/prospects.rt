@@ -1,18 +1,18 @@
 //! What is told of an event with what it would come to.
 
 ghost use Rattle.std.specs.Prelude.{◌≡◌, ◌++◌, IfOk, OnOk};
-ghost use Rattle.spec_next.specs.Wants.{wants_of};
-ghost use Rattle.spec_next.specs.Prospects.{wants_by, ruling_by};
+ghost use Rattle.spec_next.specs.Requirements.{requirements_of};
+ghost use Rattle.spec_next.specs.Prospects.{requirements_by, ruling_by};
 ghost use Rattle.bm_world.specs.Playing.{setup_in};
 ghost use Rattle.next_outlook.specs.Foretold as spec;
 
 use crate::ahead::is_shown;
-use crate::wants::lacking;
+use crate::requirements::lacking;
 use bm_calculus::Config;
 use bm_hash::Hash32;
 use bm_world::World;
 use spec_data::{OutOfMemory, Seq};
-use spec_next::{Prospect, Ruling, Want};
+use spec_next::{Prospect, Requirement, Ruling};
 use spec_run::{Event, Outcome};
 use std::alloc::Global;
 
@@ -37,16 +37,16 @@ fn ruling_in(alloc: Global, outcome: &Option<Outcome>) -> Result<Ruling, OutOfMe
     }
 }
 
-// What is said to be wanting for an event with this ruling: nothing where it can come.
-fn wants_by<H: Hash32 + Drop>(
+// What is said to be missing for an event with this ruling: nothing where it can come.
+fn requirements_by<H: Hash32 + Drop>(
     alloc: Global,
     world: &World<H>,
     config: &Config,
     event: &Event,
     ruling: &Ruling,
-) -> Result<Seq<Want>, OutOfMemory>
-    ensures { IfOk result (λ wants. wants ≡ wants_by
-        (wants_of (setup_in H.digest_of world.now) config.now world.now.world event.now) ruling.now) }
+) -> Result<Seq<Requirement>, OutOfMemory>
+    ensures { IfOk result (λ requirements. requirements ≡ requirements_by
+        (requirements_of (setup_in H.digest_of world.now) config.now world.now.world event.now) ruling.now) }
 {
     match ruling {
         Ruling::Cannot(reason) => lacking(alloc, world, config, event, reason),
@@ -71,12 +71,12 @@ fn tell_ruling<H: Hash32 + Drop>(
     if !is_shown(world, event, &ruling) {
         return Ok(());
     }
-    let wants = wants_by(alloc, world, config, event, &ruling)?;
+    let requirements = requirements_by(alloc, world, config, event, &ruling)?;
     let event = event.copy(alloc)?;
     prospects.push(Prospect {
         event,
         ruling,
-        wants,
+        requirements,
     })?;
     Ok(())
 }

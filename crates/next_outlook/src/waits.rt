@@ -1,4 +1,4 @@
-//! Who can give now what is wanting.
+//! Who can give now what is missing.
 
 ghost use Rattle.std.specs.Prelude.{◌≡◌, ◌&&◌, option_map, IfOk};
 ghost use Rattle.std.specs.List.{list_any};
@@ -7,30 +7,30 @@ ghost use Rattle.spec_next.specs.Prospects as spec;
 use crate::gives::gives;
 use bm_calculus::Config;
 use spec_data::{Name, OutOfMemory, Seq};
-use spec_next::{Prospect, Ruling, Want};
+use spec_next::{Prospect, Requirement, Ruling};
 use std::alloc::Global;
 
-// The party that is to give what is wanting.
-fn awaited(want: &Want) -> Option<&Name>
-    ensures { option_map (λ n. n.now) result ≡ spec.awaited want.now }
+// The party that is to give what is missing.
+fn awaited(requirement: &Requirement) -> Option<&Name>
+    ensures { option_map (λ n. n.now) result ≡ spec.awaited requirement.now }
 {
-    match want {
-        Want::Digest { party, .. } => Some(party),
-        Want::Commitment { party, .. } => Some(party),
-        Want::Endorsement { party, .. } => Some(party),
-        Want::Start { party, .. } => Some(party),
-        Want::Authorisation { party, .. } => Some(party),
-        Want::Secret { party, .. } => Some(party),
-        Want::Posted { party, .. } => Some(party),
+    match requirement {
+        Requirement::Digest { party, .. } => Some(party),
+        Requirement::Commitment { party, .. } => Some(party),
+        Requirement::Endorsement { party, .. } => Some(party),
+        Requirement::Start { party, .. } => Some(party),
+        Requirement::Authorisation { party, .. } => Some(party),
+        Requirement::Secret { party, .. } => Some(party),
+        Requirement::Posted { party, .. } => Some(party),
         _ => None,
     }
 }
 
-// Whether what is wanting is for this party to give.
-fn is_for(want: &Want, party: &Name) -> bool
-    ensures { result ≡ spec.is_for want.now party.now }
+// Whether what is missing is for this party to give.
+fn is_for(requirement: &Requirement, party: &Name) -> bool
+    ensures { result ≡ spec.is_for requirement.now party.now }
 {
-    match awaited(want) {
+    match awaited(requirement) {
         Some(name) => *name == *party,
         None => false,
     }
@@ -46,68 +46,73 @@ fn can_come(ruling: &Ruling) -> bool
     }
 }
 
-// Whether the event can come and gives what is wanting.
-fn is_giving(prospect: &Prospect, want: &Want) -> bool
-    ensures { result ≡ (spec.can_come prospect.now.ruling && spec.gives want.now prospect.now.event) }
+// Whether the event can come and gives what is missing.
+fn is_giving(prospect: &Prospect, requirement: &Requirement) -> bool
+    ensures { result ≡ (spec.can_come prospect.now.ruling && spec.gives requirement.now prospect.now.event) }
 {
-    can_come(&prospect.ruling) && gives(want, &prospect.event)
+    can_come(&prospect.ruling) && gives(requirement, &prospect.event)
 }
 
-// Whether one of these events can come and gives what is wanting.
-fn is_given(prospects: &[Prospect], want: &Want) -> bool
-    ensures { result ≡ spec.is_given prospects.now want.now }
+// Whether one of these events can come and gives what is missing.
+fn is_given(prospects: &[Prospect], requirement: &Requirement) -> bool
+    ensures { result ≡ spec.is_given prospects.now requirement.now }
 {
-    prospects.iter().any(|prospect| is_giving(prospect, want))
+    prospects
+        .iter()
+        .any(|prospect| is_giving(prospect, requirement))
 }
 
 // Whether nothing stands in the way of giving it by an event that isn't listed.
-fn is_open(config: &Config, want: &Want) -> bool
-    ensures { result ≡ spec.is_open config.now want.now }
+fn is_open(config: &Config, requirement: &Requirement) -> bool
+    ensures { result ≡ spec.is_open config.now requirement.now }
 {
-    match want {
-        Want::Digest { contract, .. } => config.is_advertised(*contract),
-        Want::Posted { .. } => true,
+    match requirement {
+        Requirement::Digest { contract, .. } => config.is_advertised(*contract),
+        Requirement::Posted { .. } => true,
         _ => false,
     }
 }
 
 // Whether it can be given now.
-fn is_at_hand(config: &Config, prospects: &[Prospect], want: &Want) -> bool
-    ensures { result ≡ spec.is_at_hand config.now prospects.now want.now }
+fn is_at_hand(config: &Config, prospects: &[Prospect], requirement: &Requirement) -> bool
+    ensures { result ≡ spec.is_at_hand config.now prospects.now requirement.now }
 {
-    is_open(config, want) || is_given(prospects, want)
+    is_open(config, requirement) || is_given(prospects, requirement)
 }
 
 // Whether this party can give it now.
-fn is_from(config: &Config, prospects: &[Prospect], want: &Want, party: &Name) -> bool
-    ensures { result ≡ (spec.is_for want.now party.now && spec.is_at_hand config.now prospects.now want.now) }
+fn is_from(config: &Config, prospects: &[Prospect], requirement: &Requirement, party: &Name) -> bool
+    ensures { result ≡ (spec.is_for requirement.now party.now && spec.is_at_hand config.now prospects.now requirement.now) }
 {
-    is_for(want, party) && is_at_hand(config, prospects, want)
+    is_for(requirement, party) && is_at_hand(config, prospects, requirement)
 }
 
 // Whether this party can give one of these now.
-fn is_one_from(config: &Config, prospects: &[Prospect], wants: &[Want], party: &Name) -> bool
+fn is_one_from(
+    config: &Config,
+    prospects: &[Prospect],
+    requirements: &[Requirement],
+    party: &Name,
+) -> bool
     ensures { result
-        ≡ list_any (λ want. spec.is_for want party.now && spec.is_at_hand config.now prospects.now want) wants.now }
+        ≡ list_any (λ requirement. spec.is_for requirement party.now && spec.is_at_hand config.now prospects.now requirement) requirements.now }
 {
-    wants
-        .iter()
-        .any(|want| is_from(config, prospects, want, party))
+    requirements.iter().any(|requirement| is_from(config, prospects, requirement, party))
 }
 
-// Whether this party can give now what is wanting for one of these.
+// Whether this party can give now what is missing for one of these.
 fn is_waited_for(config: &Config, prospects: &[Prospect], party: &Name) -> bool
     ensures { result ≡ spec.is_waited_for config.now prospects.now party.now }
 {
     prospects.iter().any(|prospect| is_one_from(
         config,
         prospects,
-        prospect.wants.as_slice(),
+        prospect.requirements.as_slice(),
         party,
     ))
 }
 
-/// Those of these people who can give now what is wanting for one of the prospects.
+/// Those of these people who can give now what is missing for one of the prospects.
 pub(crate) fn waits(
     alloc: Global,
     config: &Config,

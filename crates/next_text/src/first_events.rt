@@ -11,7 +11,7 @@ use spec_run::Event;
 use spec_terms::Pre;
 use std::alloc::{AllocError, Global};
 
-// Binds a name to the output of this number, and answers the next one's. One of 2^32 is taken for want of memory.
+// Binds a name to the output of this number, and answers the next one's. One of 2^32 counts as out of memory.
 fn bind(bound: &mut Seq<(Name, u32)>, number: u32, name: &Name) -> Result<u32, OutOfMemory>
     ensures bound { OnOk result (bound.new ≡ bound.old ++ (name.now, number) ∷ []) }
     ensures next { IfOk result (λ next. next ≡ number + 1) }

@@ -1,5 +1,4 @@
-//! How what comes next is printed; and the first lines of a run of a contract: what a run file needs, and the events up to the contract's
-//! beginning.
+//! Writes the answer of `bitml next`: the lines after a run, or the first lines of one from a contract alone.
 #![tactic(auto)]
 
 mod beginning;
@@ -7,7 +6,7 @@ mod first_events;
 mod header;
 mod once;
 mod outlook;
-mod want;
+mod requirement;
 
 pub use beginning::begin_text;
 pub use outlook::outlooks_text;

@@ -1,14 +1,14 @@
-//! The lines of what is wanting, each once.
+//! The lines of what is missing, each once.
 
 ghost use Rattle.std.specs.Prelude.{◌≡◌, ◌++◌, map, flat_map, IfOk, OnOk};
 ghost use Rattle.spec_data.specs.Lists.{is_among};
-ghost use Rattle.spec_next.specs.WantText.{want_line};
+ghost use Rattle.spec_next.specs.RequirementText.{requirement_line};
 ghost use Rattle.spec_next.specs.OutlookText as spec;
 
-use crate::want::want_line;
+use crate::requirement::requirement_line;
 use bm_text::put;
 use spec_data::{Bytes, OutOfMemory, Seq};
-use spec_next::Want;
+use spec_next::Requirement;
 use std::alloc::Global;
 
 // Whether the line is among these.
@@ -29,13 +29,13 @@ fn add_line(lines: &mut Seq<Bytes>, line: Vec<u8>) -> Result<(), OutOfMemory>
     Ok(())
 }
 
-// The lines of what is wanting, each once where it first stands.
-fn want_lines(alloc: Global, wants: &[Want]) -> Result<Seq<Bytes>, OutOfMemory>
-    ensures { IfOk result (λ lines. lines ≡ spec.once (map want_line wants.now)) }
+// The lines of what is missing, each once where it first stands.
+fn requirement_lines(alloc: Global, requirements: &[Requirement]) -> Result<Seq<Bytes>, OutOfMemory>
+    ensures { IfOk result (λ lines. lines ≡ spec.once (map requirement_line requirements.now)) }
 {
     let mut lines = Seq::new(alloc);
-    for want in wants {
-        let line = want_line(alloc, want)?;
+    for requirement in requirements {
+        let line = requirement_line(alloc, requirement)?;
         add_line(&mut lines, line)?;
     }
     Ok(lines)
@@ -51,10 +51,14 @@ fn put_lines(out: &mut Vec<u8>, lines: &[Bytes]) -> Result<(), OutOfMemory>
     Ok(())
 }
 
-/// The lines of what is wanting, each once.
-pub(crate) fn put_wants(alloc: Global, out: &mut Vec<u8>, wants: &[Want]) -> Result<(), OutOfMemory>
-    ensures { OnOk result (out.new.items ≡ out.old.items ++ flat_map (λ line. line) (spec.once (map want_line wants.now))) }
+/// The lines of what is missing, each once.
+pub(crate) fn put_requirements(
+    alloc: Global,
+    out: &mut Vec<u8>,
+    requirements: &[Requirement],
+) -> Result<(), OutOfMemory>
+    ensures { OnOk result (out.new.items ≡ out.old.items ++ flat_map (λ line. line) (spec.once (map requirement_line requirements.now))) }
 {
-    let lines = want_lines(alloc, wants)?;
+    let lines = requirement_lines(alloc, requirements)?;
     put_lines(out, lines.as_slice())
 }

@@ -5,7 +5,7 @@ ghost use Rattle.spec_text.specs.RunText.{newline, event_text};
 ghost use Rattle.spec_text.specs.OutcomeText.{reason_text};
 ghost use Rattle.spec_next.specs.OutlookText as spec;
 
-use crate::once::put_wants;
+use crate::once::put_requirements;
 use bm_report::put_reason;
 use bm_runfile::put_event;
 use bm_text::put;
@@ -70,7 +70,7 @@ fn put_prospect(alloc: Global, out: &mut Vec<u8>, prospect: &Prospect) -> Result
     ensures { OnOk result (out.new.items ≡ out.old.items ++ spec.prospect_text prospect.now) }
 {
     put_ruling(alloc, out, &prospect.event, &prospect.ruling)?;
-    put_wants(alloc, out, prospect.wants.as_slice())
+    put_requirements(alloc, out, prospect.requirements.as_slice())
 }
 
 #[tactic(auto, using(std::proofs::Common::append_assoc))]

@@ -1,2 +1,3 @@
-//! Addresses of witness outputs, by BIP 173 and BIP 350: which text is the address of a script, and which words are read as one. All of it is definitions.
+//! The definition of Bitcoin addresses by BIP 173 and BIP 350: which text is the address of a script. It is read to
+//! know what `deal_address` does.
 #![tactic(auto)]

@@ -57,7 +57,12 @@ no_output = refl
 repeated : verdict toy [] chain (one (plain ∷ plain ∷ []) 10) ≡ Refused InputRepeated
 repeated = refl
 
-missing : verdict toy [] chain (one (record { prev = record { txid = replicate 32 8; vout = 0 }; script_sig = []; sequence = final; witness = [] } ∷ []) 10) ≡ Refused (MissingInput 0)
+missing : verdict toy [] chain (one (record {
+  prev = record { txid = replicate 32 8; vout = 0 };
+  script_sig = [];
+  sequence = final;
+  witness = [];
+} ∷ []) 10) ≡ Refused (MissingInput 0)
 missing = refl
 
 too_much : verdict toy [] chain (one (plain ∷ []) 2100000000000001) ≡ Refused ValueLimit

@@ -180,11 +180,11 @@ abbrev pub with_place : ℕ → Result Tx ℕ → Result Tx ℕ
 with_place n (Ok tx) = Ok tx
 with_place n (Err left) = Err (n - left)
 
--- the transaction that the bytes spell, or the length of their longest front that begins a spelling
+-- the transaction that the bytes spell, or the length of their longest prefix that begins a spelling
 abbrev pub transaction_of : List ℕ → Result Tx ℕ
 transaction_of bytes = with_place (length bytes) (all_at bytes)
 
--- the bytes spell no transaction, and p is the length of their longest front that begins a spelling
+-- the bytes spell no transaction, and p is the length of their longest prefix that begins a spelling
 pub record IsBadAt (bytes : List ℕ) (p : ℕ) : Type 0 where
   pub none : (tx : Tx) → Spells bytes tx → ⊥
   pub within : p ≤ length bytes

@@ -120,7 +120,7 @@ pub record Spells (bytes : List ℕ) (tx : Tx) : Type 0 where
   pub same : bytes ≡ spelling tx
   pub fits : IsTransaction tx
 
--- the bytes are the front of some transaction's spelling
+-- the bytes are the prefix of some transaction's spelling
 pub record Begins (bytes : List ℕ) : Type 0 where
   pub more : List ℕ
   pub tx : Tx

@@ -13,7 +13,7 @@ use Rattle.spec_bitcoin.specs.Scripts.{encode, script_ops, is_written}
 abbrev pub OneTransaction : Type 0
 OneTransaction = (bytes : List ℕ) (a b : Tx) → Spells bytes a → Spells bytes b → a ≡ b
 
--- no spelling is a proper front of another
+-- no spelling is a proper prefix of another
 abbrev pub NoSpellingBegins : Type 0
 NoSpellingBegins = (bytes more : List ℕ) (a b : Tx) → Spells bytes a → Spells (bytes ++ more) b → more ≡ []
 
@@ -25,7 +25,7 @@ SpelledIsRead = (bytes : List ℕ) (tx : Tx) → Spells bytes tx → transaction
 abbrev pub ReadIsSpelled : Type 0
 ReadIsSpelled = (bytes : List ℕ) (tx : Tx) → IsBytes bytes → transaction_of bytes ≡ Ok tx → Spells bytes tx
 
--- where nothing is read, the place is the end of the longest front that begins a spelling
+-- where nothing is read, the place is the end of the longest prefix that begins a spelling
 abbrev pub FaultIsFirst : Type 0
 FaultIsFirst = (bytes : List ℕ) (p : ℕ) → IsBytes bytes → transaction_of bytes ≡ Err p → IsBadAt bytes p
 

@@ -29,15 +29,15 @@ pub data Open : Type 0 where
   Unmatched : Open
 
 -- with an operation or a block before it, which `before` puts in front of the operations and blocks after it
-abbrev pub put_front : (Items → Items) → Open → Open
-put_front before (Outside items) = Outside (before items)
-put_front before (Inside items others outer) = Inside (before items) others outer
-put_front before Unmatched = Unmatched
+abbrev pub put_at_head : (Items → Items) → Open → Open
+put_at_head before (Outside items) = Outside (before items)
+put_at_head before (Inside items others outer) = Inside (before items) others outer
+put_at_head before Unmatched = Unmatched
 
 -- with an IF or NOTIF before it, which begins the innermost block
 abbrev pub put_if : Bool → Open → Open
 put_if negated (Outside items) = Unmatched
-put_if negated (Inside items others outer) = put_front (Block negated (Section items others)) outer
+put_if negated (Inside items others outer) = put_at_head (Block negated (Section items others)) outer
 put_if negated Unmatched = Unmatched
 
 -- with an ELSE before it, which cuts the innermost block
@@ -68,7 +68,7 @@ abbrev pub put_kind : Kind → Op → Open → Open
 put_kind (Begins negated) op = put_if negated
 put_kind Cuts op = put_else
 put_kind Ends op = put_endif
-put_kind Runs op = put_front (Plain op)
+put_kind Runs op = put_at_head (Plain op)
 
 -- with an operation before it
 abbrev pub put_op : Op → Open → Open

@@ -1,4 +1,5 @@
-//! Bitcoin's transactions, scripts, keys and the ledger's verdict, as plain data and definitions.
+//! The definitions of Bitcoin that everything else rests on: transactions as bytes, ids and digests, scripts and what
+//! they mean, keys and signatures as a model, and the ledger's verdict. Read docs/scripts.md beside it.
 #![tactic(auto)]
 
 pub mod label;

@@ -1,4 +1,5 @@
-//! The contract calculus: configurations, steps, and which steps may be taken.
+//! The definition of the calculus: configurations, the twelve steps with premises and effects, legal runs, and what is
+//! offered. Read docs/calculus.md beside it.
 #![tactic(auto)]
 
 pub mod parts;

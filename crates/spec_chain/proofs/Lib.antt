@@ -1,4 +1,4 @@
-pub mod WorkedChainFiles
-pub mod WorkedDeals
-pub mod WorkedStates
-pub mod WorkedTurns
+pub mod ChainFileVectors
+pub mod DealVectors
+pub mod StateVectors
+pub mod TurnVectors

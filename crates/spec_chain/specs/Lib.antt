@@ -5,6 +5,6 @@ pub mod Following
 pub mod Refusals
 pub mod Chain
 pub mod ToldSecrets
-pub mod Wanting
+pub mod Outstanding
 pub mod StateText
 pub mod RefusedText

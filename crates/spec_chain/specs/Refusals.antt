@@ -42,7 +42,7 @@ inputs_reason s ts is_own live k (i ∷ is) =
 abbrev pub lock_reason : ℕ → Tx → Option ChainReason
 lock_reason height tx = if nat_lt tx.lock height then None else Some reasons.Lock
 
--- the judge that takes every signature with every key
+-- the oracle that takes every signature with every key
 abbrev pub takes_all : List ℕ → List ℕ → Bool
 takes_all signature key = true
 

@@ -18,11 +18,11 @@ use Rattle.spec_deal.specs.SecretFile.{string_for}
 use Rattle.spec_chain.specs.declared.happened.Happened.{Happened}
 use Rattle.spec_chain.specs.declared.output.Held.TheVariants.{Deposit, Position, Payout}
 use Rattle.spec_chain.specs.declared.output.Output.{Output}
-use Rattle.spec_chain.specs.declared.want.Want.{Want}
-use Rattle.spec_chain.specs.declared.want.Want.TheVariants as wants
+use Rattle.spec_chain.specs.declared.requirement.Requirement.{Requirement}
+use Rattle.spec_chain.specs.declared.requirement.Requirement.TheVariants as requirements
 use Rattle.spec_chain.specs.Chain.{Course}
 use Rattle.spec_chain.specs.Following.{State}
-use Rattle.spec_chain.specs.Wanting.{asked, known, wanting, awaited}
+use Rattle.spec_chain.specs.Outstanding.{asked, known, outstanding, awaited}
 
 -- a txid as wallets show it, with its bytes reversed
 abbrev pub txid_text : List ℕ → List ℕ
@@ -80,34 +80,34 @@ height_line tip = line_of (codes "height" ∷ decimal tip ∷ [])
 
 -- ---- what may come
 
-abbrev pub want_words : Want → List (List ℕ)
-want_words (wants.Height height) = codes "needs height" ∷ decimal height ∷ []
-want_words (wants.Signature which input label verb) =
+abbrev pub requirement_words : Requirement → List (List ℕ)
+requirement_words (requirements.Height height) = codes "needs height" ∷ decimal height ∷ []
+requirement_words (requirements.Signature which input label verb) =
     codes "needs signature" ∷ which_text which ∷ decimal input ∷ label_text label ∷ verb_text verb ∷ []
-want_words (wants.Deposit name) = codes "needs deposit" ∷ name ∷ []
-want_words (wants.Secret name party) = codes "needs secret" ∷ name ∷ codes "of" ∷ party ∷ []
-want_words wants.DepositGone = codes "never: deposit gone" ∷ []
-want_words wants.PredicateFalse = codes "never: predicate false" ∷ []
+requirement_words (requirements.Deposit name) = codes "needs deposit" ∷ name ∷ []
+requirement_words (requirements.Secret name party) = codes "needs secret" ∷ name ∷ codes "of" ∷ party ∷ []
+requirement_words requirements.DepositGone = codes "never: deposit gone" ∷ []
+requirement_words requirements.PredicateFalse = codes "never: predicate false" ∷ []
 
-abbrev pub want_line : Want → List ℕ
-want_line want = line_of (want_words want)
+abbrev pub requirement_line : Requirement → List ℕ
+requirement_line requirement = line_of (requirement_words requirement)
 
--- a transaction that these are wanting for
-abbrev pub prospect_text : Which → List Want → List ℕ
+-- a transaction that these are missing for
+abbrev pub prospect_text : Which → List Requirement → List ℕ
 prospect_text which [] = line_of (codes "can" ∷ which_text which ∷ [])
-prospect_text which (w ∷ ws) = line_of (codes "cannot" ∷ which_text which ∷ []) ++ flat_map want_line (w ∷ ws)
+prospect_text which (w ∷ ws) = line_of (codes "cannot" ∷ which_text which ∷ []) ++ flat_map requirement_line (w ∷ ws)
 
 abbrev pub waits_line : List ℕ → List ℕ
 waits_line party = line_of (codes "waits" ∷ party ∷ [])
 
--- what is wanting for each that is asked
-abbrev pub wantings : (List ℕ → List ℕ) → Keys → Instance → List Signed → List Shown → State → ℕ → List (List Want)
-wantings hash keys s given strings state tip = map (wanting hash keys s given strings state tip) (asked s state)
+-- what is missing for each that is asked
+abbrev pub all_outstanding : (List ℕ → List ℕ) → Keys → Instance → List Signed → List Shown → State → ℕ → List (List Requirement)
+all_outstanding hash keys s given strings state tip = map (outstanding hash keys s given strings state tip) (asked s state)
 
 abbrev pub prospects_text : (List ℕ → List ℕ) → Keys → Instance → List Signed → List Shown → State → ℕ → List ℕ
 prospects_text hash keys s given strings state tip =
-    flat_map (λ which. prospect_text which (wanting hash keys s given strings state tip which)) (asked s state)
-    ++ flat_map waits_line (awaited s (wantings hash keys s given strings state tip))
+    flat_map (λ which. prospect_text which (outstanding hash keys s given strings state tip which)) (asked s state)
+    ++ flat_map waits_line (awaited s (all_outstanding hash keys s given strings state tip))
 
 -- ---- all of it
 

@@ -5,10 +5,10 @@ pub mod fault;
 pub mod happened;
 pub mod output;
 pub mod reading;
-pub mod want;
+pub mod requirement;
 
 pub use fault::{ChainFault, ChainReason};
 pub use happened::Happened;
 pub use output::{Held, Output};
 pub use reading::{Confirmed, Line, Reading};
-pub use want::Want;
+pub use requirement::Requirement;

@@ -1,2 +1,3 @@
-//! The curve secp256k1 and the signatures of ECDSA over it, as definitions over natural numbers.
+//! The definition of the curve secp256k1 and of ECDSA over natural numbers. What `deal` says of signatures is said by
+//! it.
 #![tactic(auto)]

@@ -19,10 +19,10 @@ abbrev pub is_twin : (List ℕ → List ℕ) → List ℕ → List ℕ → Bool
 is_twin hash message earlier = bytes_eq (hash earlier) (hash message) && not (bytes_eq earlier message)
 
 -- an earlier message with this one's digest that is another, and this one
-abbrev pub clash : (List ℕ → List ℕ) → List (List ℕ) → List ℕ → Option (List ℕ × List ℕ)
-clash hash messages message = option_map (λ earlier. (earlier, message)) (find (is_twin hash message) messages)
+abbrev pub collision_with : (List ℕ → List ℕ) → List (List ℕ) → List ℕ → Option (List ℕ × List ℕ)
+collision_with hash messages message = option_map (λ earlier. (earlier, message)) (find (is_twin hash message) messages)
 
 -- the first two different messages with one digest that come of hashing these in turn, the earlier one first
 abbrev pub collision : (List ℕ → List ℕ) → List (List ℕ) → List (List ℕ) → Option (List ℕ × List ℕ)
 collision hash messages [] = None
-collision hash messages (m ∷ ms) = option_or (clash hash messages m) (collision hash (noted messages m) ms)
+collision hash messages (m ∷ ms) = option_or (collision_with hash messages m) (collision hash (noted messages m) ms)

@@ -7,7 +7,7 @@ ghost use Rattle.spec_data.specs.ByteList.{bytes_in};
 use std::alloc::{AllocError, Global};
 use std::marker::Model;
 
-/// Want of memory.
+/// Out of memory.
 pub type OutOfMemory = AllocError;
 
 /// Whether two byte strings differ in their length or in their last byte: most that differ are told apart so.
@@ -102,7 +102,7 @@ impl Bytes {
     {
         match &self.room {
             Room::Place { len, bytes } => match bytes.get(..*len as usize) {
-                Some(front) => front,
+                Some(prefix) => prefix,
                 None => bytes,
             },
             Room::Vector(list) => list.as_slice(),

@@ -1,4 +1,4 @@
-//! The plain data that everything is made of: lists, byte strings and names, as contracts see them, and how far numbers go.
+//! Lists, byte strings, names and number ranges, as contracts see them. Every definition is built of these.
 #![tactic(auto)]
 
 pub mod boxed;

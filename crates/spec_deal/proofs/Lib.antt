@@ -1,4 +1,4 @@
-pub mod WorkedFiles
-pub mod WorkedShapes
-pub mod WorkedSignatures
-pub mod WorkedGiven
+pub mod FileVectors
+pub mod ShapeVectors
+pub mod SignatureVectors
+pub mod GivenVectors

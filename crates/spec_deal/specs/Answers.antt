@@ -4,8 +4,8 @@
 --  1  the contract is refused
 --  2  the words are no command
 --  3  a read failed; nothing is written
---  4  the write failed; a front of the text is written
---  5  memory was wanting; nothing is written
+--  4  the write failed; a prefix of the text is written
+--  5  memory ran out; nothing is written
 --  8  two different strings that are hashed collide
 -- 13  the deal file is refused
 -- 14  the file of signatures is refused
@@ -72,7 +72,7 @@ deal_refused fault = prints 13 (deal_refused_line fault)
 
 -- whether the deal's own transactions make the output at this place
 abbrev pub is_made_here : (List ℕ → List ℕ) → Keys → Instance → OutPoint → Bool
-is_made_here hash keys s place = list_any (λ l. bytes_eq (txid hash (tx_of l.draft)) place.txid) (listed hash keys s)
+is_made_here hash keys s place = list_any (λ l. bytes_eq (txid hash (tx_of l.pending)) place.txid) (listed hash keys s)
 
 -- the first deposit that would be made by one of the deal's own transactions
 abbrev pub circular : (List ℕ → List ℕ) → Keys → Instance → Option (List ℕ)

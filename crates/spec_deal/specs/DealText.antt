@@ -93,7 +93,7 @@ sign_line slot = of_deals (line_of (codes "sign" ∷ slot_words slot))
 
 abbrev pub digest_line : (List ℕ → List ℕ) → Listed → ℕ → Spent → PlanLine
 digest_line hash l k spent =
-    of_runs (line_of (codes "digest" ∷ which_text l.which ∷ decimal k ∷ hex_text (digest_of_spent hash (tx_of l.draft) spent) ∷ []))
+    of_runs (line_of (codes "digest" ∷ which_text l.which ∷ decimal k ∷ hex_text (digest_of_spent hash (tx_of l.pending) spent) ∷ []))
 
 -- of the inputs from number k on, each the digest and who signs
 abbrev pub input_lines : (List ℕ → List ℕ) → Advert → Listed → ℕ → List Spent → List (List Label) → List PlanLine
@@ -106,10 +106,10 @@ input_lines hash advert l k (spent ∷ spends) (labels ∷ signers) =
 abbrev pub tx_line : (List ℕ → List ℕ) → Listed → PlanLine
 tx_line hash l =
     of_runs (line_of
-    (codes "tx" ∷ which_text l.which ∷ hex_text (reverse (txid hash (tx_of l.draft))) ∷ hex_text (stripped (tx_of l.draft)) ∷ []))
+    (codes "tx" ∷ which_text l.which ∷ hex_text (reverse (txid hash (tx_of l.pending))) ∷ hex_text (stripped (tx_of l.pending)) ∷ []))
 
 abbrev pub listed_lines : (List ℕ → List ℕ) → Advert → Listed → List PlanLine
-listed_lines hash advert l = tx_line hash l ∷ input_lines hash advert l 0 l.draft.spends l.signers
+listed_lines hash advert l = tx_line hash l ∷ input_lines hash advert l 0 l.pending.spends l.signers
 
 -- the scripts, the deposits, and the transactions in order
 abbrev pub plan_lines : (List ℕ → List ℕ) → Keys → Instance → List PlanLine
@@ -139,7 +139,7 @@ unsigned_input hash spent = record {
 
 -- a transaction for signers
 abbrev pub unsigned_psbt : (List ℕ → List ℕ) → Listed → Psbt
-unsigned_psbt hash l = record { tx = tx_of l.draft; inputs = map (unsigned_input hash) l.draft.spends }
+unsigned_psbt hash l = record { tx = tx_of l.pending; inputs = map (unsigned_input hash) l.pending.spends }
 
 -- all transactions, a line each
 abbrev pub psbts_text : (List ℕ → List ℕ) → Keys → Instance → List ℕ

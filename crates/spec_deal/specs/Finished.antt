@@ -59,7 +59,7 @@ choices_at s position = option_map_or (λ contract. length (branches contract)) 
 
 -- the strings of the secrets of these names
 abbrev pub strings_of : List Shown → List (List ℕ) → List (List ℕ)
-strings_of strings wanted = map (λ name. bytes_or_none (string_for strings name)) wanted
+strings_of strings required = map (λ name. bytes_or_none (string_for strings name)) required
 
 -- the witness of a branch, by the signatures of its participants
 abbrev pub branch_witness : Instance → List Shown → List (List ℕ) → Option PathEnd → List (List ℕ)
@@ -78,12 +78,12 @@ path_witnesses hash keys s given strings path l (spent ∷ spends) (labels ∷ s
     ∷ deposit_witnesses hash keys s given l 1 spends signers
 
 abbrev pub witnesses : (List ℕ → List ℕ) → Keys → Instance → List Signed → List Shown → Listed → Which → List (List (List ℕ))
-witnesses hash keys s given strings l names.Init = deposit_witnesses hash keys s given l 0 l.draft.spends l.signers
-witnesses hash keys s given strings l (names.At path) = path_witnesses hash keys s given strings path l l.draft.spends l.signers
+witnesses hash keys s given strings l names.Init = deposit_witnesses hash keys s given l 0 l.pending.spends l.signers
+witnesses hash keys s given strings l (names.At path) = path_witnesses hash keys s given strings path l l.pending.spends l.signers
 
 -- a transaction with its witnesses
 abbrev pub finished : (List ℕ → List ℕ) → Keys → Instance → List Signed → List Shown → Listed → Tx
-finished hash keys s given strings l = with_witnesses (tx_of l.draft) (witnesses hash keys s given strings l l.which)
+finished hash keys s given strings l = with_witnesses (tx_of l.pending) (witnesses hash keys s given strings l l.which)
 
 -- ---- refusals
 

@@ -7,7 +7,7 @@ use Rattle.std.specs.Option.{option_map}
 use Rattle.std.specs.Str.{bytes_eq}
 use Rattle.spec_data.specs.Digits.{read_hex}
 use Rattle.spec_data.specs.Lists.{is_among}
-use Rattle.spec_data.specs.Messages.{noted, noted_all, clash}
+use Rattle.spec_data.specs.Messages.{noted, noted_all, collision_with}
 use Rattle.spec_data.specs.Ranges.{least_secret_bytes, most_item_bytes}
 use Rattle.spec_compiler.specs.Keyed.Keys.{Keys}
 use Rattle.spec_compiler.specs.Keyed.Instance.{Instance}
@@ -48,7 +48,7 @@ has_length bytes = nat_le least_secret_bytes (length bytes) && nat_le (length by
 abbrev pub if_new : (List ℕ → List ℕ) → Instance → List (List ℕ) → Shown → Option Shown → Line
 if_new hash s messages shown (Some earlier) = bad (reasons.Repeated earlier.line)
 if_new hash s messages shown None =
-    if has_length shown.bytes then hashed_line hash s shown (clash hash messages shown.bytes) else bad reasons.Length
+    if has_length shown.bytes then hashed_line hash s shown (collision_with hash messages shown.bytes) else bad reasons.Length
 
 abbrev pub with_bytes : (List ℕ → List ℕ) → Instance → List (List ℕ) → List Shown → ℕ → List ℕ → Option (List ℕ) → Line
 with_bytes hash s messages taken n name None = bad reasons.Value

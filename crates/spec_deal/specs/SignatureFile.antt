@@ -23,7 +23,7 @@ use Rattle.spec_deal.specs.Sizes.{most_signature_bytes}
 use Rattle.spec_deal.specs.Shape.{is_strict}
 use Rattle.spec_deal.specs.declared.transaction.Input.{Input}
 use Rattle.spec_deal.specs.declared.transaction.Transaction.{Transaction}
-use Rattle.spec_deal.specs.Transactions.{Wanted, all_wanted, is_at, transactions}
+use Rattle.spec_deal.specs.Transactions.{Required, all_required, is_at, transactions}
 use Rattle.spec_deal.specs.Verifier.{Verifier}
 
 -- the signatures so far, or why a line is bad
@@ -37,16 +37,16 @@ abbrev pub same_place : Signed → Signed → Bool
 same_place a b = bytes_eq a.tx b.tx && (a.input == b.input && bytes_eq a.key b.key)
 
 -- whether a transaction with these bytes needs a signature there by this key
-abbrev pub is_wanted : List Wanted → Signed → Bool
-is_wanted wanted g = list_any (λ (w : Wanted). is_at w.spot g) wanted
+abbrev pub is_required : List Required → Signed → Bool
+is_required required g = list_any (λ (w : Required). is_at w.spot g) required
 
--- whether it verifies under its key for this digest, if it is wanted here
-abbrev pub verifies_if : Verifier → Signed → Wanted → Bool
+-- whether it verifies under its key for this digest, if it is needed here
+abbrev pub verifies_if : Verifier → Signed → Required → Bool
 verifies_if v g w = not (is_at w.spot g) || v.is_signature g.key w.digest g.signature
 
 -- whether it verifies for the digest of each transaction that needs it there
-abbrev pub is_verified : Verifier → List Wanted → Signed → Bool
-is_verified v wanted g = list_all (verifies_if v g) wanted
+abbrev pub is_verified : Verifier → List Required → Signed → Bool
+is_verified v required g = list_all (verifies_if v g) required
 
 -- no signature of this place was given: it is taken where it verifies
 abbrev pub taken_first : Bool → List Signed → Signed → Taken
@@ -64,18 +64,18 @@ taken_once verified given g (Some earlier) =
 
 -- one more signature: for a key that a transaction with these bytes needs there, of the right shape, one that verifies, and no other than
 -- an earlier one
-abbrev pub take_signature : Verifier → List Wanted → List Signed → Signed → Taken
-take_signature v wanted given g =
-    if not (is_wanted wanted g) then Err (reasons.Key g.input)
+abbrev pub take_signature : Verifier → List Required → List Signed → Signed → Taken
+take_signature v required given g =
+    if not (is_required required g) then Err (reasons.Key g.input)
     else if not (is_strict g.signature) then Err (reasons.Signature g.input)
-    else taken_once (is_verified v wanted g) given g (find (λ earlier. same_place earlier g) given)
+    else taken_once (is_verified v required g) given g (find (λ earlier. same_place earlier g) given)
 
 -- the signatures of input k in order
-abbrev pub take_signatures : Verifier → List Wanted → List ℕ → ℕ → List Signed → List Pairing → Taken
-take_signatures v wanted tx k given [] = Ok given
-take_signatures v wanted tx k given (p ∷ ps) =
-    elim (take_signature v wanted given (record { tx = tx; input = k; key = p.0; signature = p.1 })) [
-      | Ok more ↦ take_signatures v wanted tx k more ps
+abbrev pub take_signatures : Verifier → List Required → List ℕ → ℕ → List Signed → List Pairing → Taken
+take_signatures v required tx k given [] = Ok given
+take_signatures v required tx k given (p ∷ ps) =
+    elim (take_signature v required given (record { tx = tx; input = k; key = p.0; signature = p.1 })) [
+      | Ok more ↦ take_signatures v required tx k more ps
       | Err reason ↦ Err reason
     ]
 
@@ -111,20 +111,20 @@ final_signature script (Some []) = []
 final_signature script (Some (signature ∷ items)) = (script_key script, signature) ∷ []
 
 -- an input: its records first, then its signatures in ascending order of their keys, then that of its final witness
-abbrev pub take_input : Verifier → List Wanted → List ℕ → ℕ → List Signed → Input → PsbtInput → Taken
-take_input v wanted tx k given i input =
+abbrev pub take_input : Verifier → List Required → List ℕ → ℕ → List Signed → Input → PsbtInput → Taken
+take_input v required tx k given i input =
     if not (spent_fits i.output input.spent) then Err (reasons.Spent k)
     else if not (script_fits i.spent.script input.script) then Err (reasons.Script k)
     else if not (witness_fits i.spent.script input.witness) then Err (reasons.Witness k)
-    else take_signatures v wanted tx k given (input.partial ++ final_signature i.spent.script input.witness)
+    else take_signatures v required tx k given (input.partial ++ final_signature i.spent.script input.witness)
 
 -- the inputs from number k on
-abbrev pub take_inputs : Verifier → List Wanted → List ℕ → ℕ → List Signed → List Input → List PsbtInput → Taken
-take_inputs v wanted tx k given [] said = Ok given
-take_inputs v wanted tx k given (i ∷ is) [] = Ok given
-take_inputs v wanted tx k given (i ∷ is) (input ∷ said) =
-    elim (take_input v wanted tx k given i input) [
-      | Ok more ↦ take_inputs v wanted tx (k + 1) more is said
+abbrev pub take_inputs : Verifier → List Required → List ℕ → ℕ → List Signed → List Input → List PsbtInput → Taken
+take_inputs v required tx k given [] said = Ok given
+take_inputs v required tx k given (i ∷ is) [] = Ok given
+take_inputs v required tx k given (i ∷ is) (input ∷ said) =
+    elim (take_input v required tx k given i input) [
+      | Ok more ↦ take_inputs v required tx (k + 1) more is said
       | Err reason ↦ Err reason
     ]
 
@@ -134,13 +134,13 @@ take_inputs v wanted tx k given (i ∷ is) (input ∷ said) =
 abbrev pub has_bytes : List ℕ → Transaction → Bool
 has_bytes bytes t = bytes_eq t.bytes bytes
 
-abbrev pub take_transaction : Verifier → List Wanted → List Signed → Psbt → Option Transaction → Taken
-take_transaction v wanted given p None = Err reasons.Foreign
-take_transaction v wanted given p (Some t) = take_inputs v wanted (stripped p.tx) 0 given t.inputs p.inputs
+abbrev pub take_transaction : Verifier → List Required → List Signed → Psbt → Option Transaction → Taken
+take_transaction v required given p None = Err reasons.Foreign
+take_transaction v required given p (Some t) = take_inputs v required (stripped p.tx) 0 given t.inputs p.inputs
 
 abbrev pub take_psbt : Verifier → List Transaction → List Signed → Option Psbt → Taken
 take_psbt v ts given None = Err reasons.Form
-take_psbt v ts given (Some p) = take_transaction v (all_wanted ts) given p (find (has_bytes (stripped p.tx)) ts)
+take_psbt v ts given (Some p) = take_transaction v (all_required ts) given p (find (has_bytes (stripped p.tx)) ts)
 
 abbrev pub take_bytes : Verifier → List Transaction → List Signed → Option (List ℕ) → Taken
 take_bytes v ts given None = Err reasons.Base64

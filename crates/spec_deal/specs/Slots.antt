@@ -22,7 +22,7 @@ use Rattle.spec_deal.specs.declared.finish.Verb.TheVariants as verbs
 -- a signature that is needed: of this input of the transaction, which spends this, by the key of the label
 pub record Slot : Type 0 where
   pub which : Which
-  pub draft : Unsigned
+  pub pending : Unsigned
   pub input : ℕ
   pub spent : Spent
   pub label : Label
@@ -57,7 +57,7 @@ abbrev pub input_slots : Advert → Listed → ℕ → Spent → List Label → 
 input_slots advert l k spent labels =
     map
     (λ label.
-    record { which = l.which; draft = l.draft; input = k; spent = spent; label = label; verb = verb_of advert l.which label })
+    record { which = l.which; pending = l.pending; input = k; spent = spent; label = label; verb = verb_of advert l.which label })
     labels
 
 -- of the inputs from number k on
@@ -69,7 +69,7 @@ slots_from advert l k (spent ∷ spends) (labels ∷ signers) =
 
 -- of a transaction, input by input
 abbrev pub listed_slots : Advert → Listed → List Slot
-listed_slots advert l = slots_from advert l 0 l.draft.spends l.signers
+listed_slots advert l = slots_from advert l 0 l.pending.spends l.signers
 
 -- of all transactions of a contract, in order
 abbrev pub slots : (List ℕ → List ℕ) → Keys → Instance → List Slot
@@ -79,11 +79,11 @@ slots hash keys s = flat_map (listed_slots s.advert) (listed hash keys s)
 
 -- the bytes of the transaction without witnesses
 abbrev pub slot_bytes : Slot → List ℕ
-slot_bytes slot = stripped (tx_of slot.draft)
+slot_bytes slot = stripped (tx_of slot.pending)
 
 abbrev pub slot_key : (List ℕ → List ℕ) → Keys → Slot → List ℕ
 slot_key hash keys slot = key_in hash keys slot.label
 
 -- what its signature signs
 abbrev pub slot_digest : (List ℕ → List ℕ) → Slot → List ℕ
-slot_digest hash slot = digest_of_spent hash (tx_of slot.draft) slot.spent
+slot_digest hash slot = digest_of_spent hash (tx_of slot.pending) slot.spent

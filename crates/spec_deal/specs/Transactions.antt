@@ -27,7 +27,7 @@ abbrev pub input : (List ℕ → List ℕ) → Keys → Advert → Listed → Sp
 input hash keys advert l spent labels = record {
   spent = spent;
   output = pays hash spent.script spent.value;
-  digest = digest_of_spent hash (tx_of l.draft) spent;
+  digest = digest_of_spent hash (tx_of l.pending) spent;
   signers = map (signer hash keys advert l.which) labels;
 }
 
@@ -41,17 +41,17 @@ inputs hash keys advert l (spent ∷ spends) (labels ∷ signers) =
 abbrev pub transaction : (List ℕ → List ℕ) → Keys → Advert → Listed → Transaction
 transaction hash keys advert l = record {
   which = l.which;
-  tx = tx_of l.draft;
-  txid = txid hash (tx_of l.draft);
-  bytes = stripped (tx_of l.draft);
-  inputs = inputs hash keys advert l l.draft.spends l.signers;
+  tx = tx_of l.pending;
+  txid = txid hash (tx_of l.pending);
+  bytes = stripped (tx_of l.pending);
+  inputs = inputs hash keys advert l l.pending.spends l.signers;
 }
 
 -- the initial transaction, and then those of the paths in the order of the text
 abbrev pub transactions : (List ℕ → List ℕ) → Keys → Instance → List Transaction
 transactions hash keys s = map (transaction hash keys s.advert) (listed hash keys s)
 
--- ---- where signatures are wanted
+-- ---- where signatures are needed
 
 -- of an input of the transaction with these bytes, by this key
 pub record Spot : Type 0 where
@@ -59,27 +59,27 @@ pub record Spot : Type 0 where
   pub input : ℕ
   pub key : List ℕ
 
--- and of this digest. Two paths may have one transaction, and want a signature by one key of it.
-pub record Wanted : Type 0 where
+-- and of this digest. Two paths may have one transaction, and need a signature by one key of it.
+pub record Required : Type 0 where
   pub spot : Spot
   pub digest : List ℕ
 
 -- of input k
-abbrev pub input_wanted : List ℕ → ℕ → Input → List Wanted
-input_wanted tx k i =
+abbrev pub input_required : List ℕ → ℕ → Input → List Required
+input_required tx k i =
     map (λ (s : Signer). record { spot = record { tx = tx; input = k; key = s.key }; digest = i.digest }) i.signers
 
 -- of the inputs from number k on
-abbrev pub inputs_wanted : List ℕ → ℕ → List Input → List Wanted
-inputs_wanted tx k [] = []
-inputs_wanted tx k (i ∷ is) = input_wanted tx k i ++ inputs_wanted tx (k + 1) is
+abbrev pub inputs_required : List ℕ → ℕ → List Input → List Required
+inputs_required tx k [] = []
+inputs_required tx k (i ∷ is) = input_required tx k i ++ inputs_required tx (k + 1) is
 
-abbrev pub transaction_wanted : Transaction → List Wanted
-transaction_wanted t = inputs_wanted t.bytes 0 t.inputs
+abbrev pub transaction_required : Transaction → List Required
+transaction_required t = inputs_required t.bytes 0 t.inputs
 
 -- of all transactions, in order
-abbrev pub all_wanted : List Transaction → List Wanted
-all_wanted ts = flat_map transaction_wanted ts
+abbrev pub all_required : List Transaction → List Required
+all_required ts = flat_map transaction_required ts
 
 -- whether a signature is there
 abbrev pub is_at : Spot → Signed → Bool

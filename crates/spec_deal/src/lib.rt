@@ -1,4 +1,5 @@
-//! Deals: contracts with the keys, deposits and hashes of real wallets, and what the program says of them.
+//! The definition of deals: the files that are read, what is refused, what is written, and in which order. It is read
+//! to know what `bitml deal` promises.
 #![tactic(auto)]
 
 pub mod deal;

@@ -1,3 +1,3 @@
-pub mod WorkedRuns
-pub mod Worked
-pub mod WorkedWants
+pub mod RunVectors
+pub mod Vectors
+pub mod RequirementVectors

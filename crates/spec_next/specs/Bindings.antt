@@ -8,7 +8,7 @@ use Rattle.spec_calculus.specs.Same.{owner_eq}
 
 -- whether a deposit has this owner and value
 abbrev pub fits : Holding → Deposit → Bool
-fits wanted d = owner_eq d.owner (Party wanted.owner) && (d.value == wanted.value)
+fits required d = owner_eq d.owner (Party required.owner) && (d.value == required.value)
 
 -- whether a name is bound to the deposit of this number
 abbrev pub is_taken : List (List ℕ × ℕ) → ℕ → Bool
@@ -16,9 +16,9 @@ is_taken bound number = list_any (λ b. b.1 == number) bound
 
 -- the number of the first of these deposits that fits and that no name is bound to
 abbrev pub first_fitting : Holding → List (List ℕ × ℕ) → List Deposit → Option ℕ
-first_fitting wanted bound [] = None
-first_fitting wanted bound (d ∷ ds) =
-    if fits wanted d && not (is_taken bound d.number) then Some d.number else first_fitting wanted bound ds
+first_fitting required bound [] = None
+first_fitting required bound (d ∷ ds) =
+    if fits required d && not (is_taken bound d.number) then Some d.number else first_fitting required bound ds
 
 -- the name with the number, if there is one
 abbrev pub binding : List ℕ → Option ℕ → List (List ℕ × ℕ)

@@ -5,7 +5,7 @@ use Rattle.spec_calculus.specs.Configuration.{Configuration}
 use Rattle.spec_run.specs.declared.event.Event.{Event}
 use Rattle.spec_run.specs.Setup.{Setup}
 use Rattle.spec_run.specs.World.{World}
-use Rattle.spec_run.specs.Event.{draft}
+use Rattle.spec_run.specs.Event.{pending}
 use Rattle.spec_run.specs.Translation.{last_configuration, last_world}
 use Rattle.spec_text.specs.PlayText.{collided_line}
 use Rattle.spec_tool.specs.Commands.{Printed, prints}
@@ -14,7 +14,7 @@ use Rattle.spec_next.specs.OutlookText.{next_text}
 
 -- the strings that these events would hash in this world
 abbrev pub foreseen_strings : Setup → World → List Event → List (List ℕ)
-foreseen_strings s w es = flat_map (λ e. (draft s w e).hashes) es
+foreseen_strings s w es = flat_map (λ e. (pending s w e).hashes) es
 
 -- the first two different messages with one digest, of those of the run and those that the candidates would hash in turn
 abbrev pub foreseen_collision : Setup → Configuration → World → Option (List ℕ × List ℕ)

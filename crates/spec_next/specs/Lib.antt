@@ -1,7 +1,7 @@
 pub mod Bindings
 pub mod Candidates
-pub mod WantText
-pub mod Wants
+pub mod RequirementText
+pub mod Requirements
 pub mod Prospects
 pub mod OutlookText
 pub mod Foreseen

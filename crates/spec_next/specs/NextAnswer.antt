@@ -4,8 +4,8 @@
 --  1  a contract file is refused
 --  2  the words aren't a contract, or a run and up to 16 contracts
 --  3  a read failed; nothing is written
---  4  the write failed; a front of the text is written
---  5  memory was wanting; nothing is written
+--  4  the write failed; a prefix of the text is written
+--  5  memory ran out; nothing is written
 --  6  the run file is refused
 --  7  an event of the run guesses a secret: its last line alone
 --  8  the opening or an event of the run collides, or what is hashed in asking what may come next: the line of the two messages alone

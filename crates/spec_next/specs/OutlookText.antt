@@ -10,7 +10,7 @@ use Rattle.spec_next.specs.declared.outlook.Ruling.{Ruling}
 use Rattle.spec_next.specs.declared.outlook.Ruling.TheVariants as rulings
 use Rattle.spec_next.specs.declared.outlook.Prospect.{Prospect}
 use Rattle.spec_next.specs.declared.outlook.Outlook.{Outlook}
-use Rattle.spec_next.specs.WantText.{want_line}
+use Rattle.spec_next.specs.RequirementText.{requirement_line}
 use Rattle.spec_next.specs.Prospects.{outlooks}
 
 -- `can EVENT`, `cannot EVENT REASON`, and `cannot EVENT halts` where it would halt the run
@@ -31,9 +31,9 @@ once_onto seen (line ∷ more) = once_onto (with_line seen line) more
 abbrev pub once : List (List ℕ) → List (List ℕ)
 once lines = once_onto [] lines
 
--- an event and what is wanting for it
+-- an event and what is missing for it
 abbrev pub prospect_text : Prospect → List ℕ
-prospect_text p = ruling_line p.event p.ruling ++ flat_map (λ line. line) (once (map want_line p.wants))
+prospect_text p = ruling_line p.event p.ruling ++ flat_map (λ line. line) (once (map requirement_line p.requirements))
 
 -- `waits A`
 abbrev pub waits_line : List ℕ → List ℕ

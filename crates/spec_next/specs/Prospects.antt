@@ -1,4 +1,4 @@
--- What may come next of the contracts of a run: what each candidate would come to, what is wanting for it, and on whom something waits.
+-- What may come next of the contracts of a run: what each candidate would come to, what is missing for it, and on whom something waits.
 use Rattle.std.specs.Prelude.{ℕ, ◌+◌, ◌==◌, List, [], ◌∷◌, ◌++◌, map, filter, Bool, true, false, not, ◌&&◌, ◌||◌, if◌then◌else◌, Option, Some, None}
 use Rattle.std.specs.List.{list_any}
 use Rattle.std.specs.Str.{bytes_eq}
@@ -15,16 +15,16 @@ use Rattle.spec_run.specs.declared.outcome.Reason.TheVariants as reason
 use Rattle.spec_run.specs.declared.outcome.Outcome.TheVariants as outcomes
 use Rattle.spec_run.specs.Setup.{Setup, held_secret}
 use Rattle.spec_run.specs.World.{World, is_advertised, has_promised}
-use Rattle.spec_run.specs.Draft.{Answer, Went, Halted}
+use Rattle.spec_run.specs.Pending.{Answer, Went, Halted}
 use Rattle.spec_run.specs.Event.{event}
-use Rattle.spec_next.specs.declared.want.Want.{Want}
-use Rattle.spec_next.specs.declared.want.Want.TheVariants as wants
+use Rattle.spec_next.specs.declared.requirement.Requirement.{Requirement}
+use Rattle.spec_next.specs.declared.requirement.Requirement.TheVariants as requirements
 use Rattle.spec_next.specs.declared.outlook.Ruling.{Ruling}
 use Rattle.spec_next.specs.declared.outlook.Ruling.TheVariants as rulings
 use Rattle.spec_next.specs.declared.outlook.Prospect.{Prospect}
 use Rattle.spec_next.specs.declared.outlook.Outlook.{Outlook}
 use Rattle.spec_next.specs.Candidates.{candidates}
-use Rattle.spec_next.specs.Wants.{wants_of}
+use Rattle.spec_next.specs.Requirements.{requirements_of}
 
 -- ---- what an event would come to
 
@@ -72,36 +72,36 @@ is_shown s w e rulings.Halts = true
 -- ---- prospects
 
 -- what stays so of a refusal: nobody is honest; an honest party's secret isn't there, is too short or too long, or was committed before
-abbrev pub lasting : Reason → List Want
-lasting reason.NoHonest = wants.NobodyHonest ∷ []
-lasting (reason.NoSecret secret) = wants.Missing secret ∷ []
-lasting (reason.BadSecretLength secret) = wants.BadLength secret ∷ []
-lasting (reason.HashRepeated secret) = wants.Repeated secret ∷ []
+abbrev pub lasting : Reason → List Requirement
+lasting reason.NoHonest = requirements.NobodyHonest ∷ []
+lasting (reason.NoSecret secret) = requirements.Missing secret ∷ []
+lasting (reason.BadSecretLength secret) = requirements.BadLength secret ∷ []
+lasting (reason.HashRepeated secret) = requirements.Repeated secret ∷ []
 lasting _ = []
 
 -- whether nothing gives it
-abbrev pub is_never : Want → Bool
-is_never (wants.Gone x) = true
-is_never wants.NobodyHonest = true
-is_never (wants.Missing secret) = true
-is_never (wants.BadLength secret) = true
-is_never (wants.Repeated secret) = true
-is_never (wants.Put x) = true
-is_never wants.Predicate = true
+abbrev pub is_never : Requirement → Bool
+is_never (requirements.Gone x) = true
+is_never requirements.NobodyHonest = true
+is_never (requirements.Missing secret) = true
+is_never (requirements.BadLength secret) = true
+is_never (requirements.Repeated secret) = true
+is_never (requirements.Put x) = true
+is_never requirements.Predicate = true
 is_never _ = false
 
--- beside what nothing gives the rest isn't wanting
-abbrev pub decisive : List Want → List Want
-decisive wanted = if list_any is_never wanted then filter is_never wanted else wanted
+-- beside what nothing gives the rest isn't missing
+abbrev pub decisive : List Requirement → List Requirement
+decisive required = if list_any is_never required then filter is_never required else required
 
--- nothing is wanting for what can come
-abbrev pub wants_by : List Want → Ruling → List Want
-wants_by wanted rulings.Can = []
-wants_by wanted (rulings.Cannot reason) = decisive (lasting reason ++ wanted)
-wants_by wanted rulings.Halts = []
+-- nothing is missing for what can come
+abbrev pub requirements_by : List Requirement → Ruling → List Requirement
+requirements_by required rulings.Can = []
+requirements_by required (rulings.Cannot reason) = decisive (lasting reason ++ required)
+requirements_by required rulings.Halts = []
 
 abbrev pub prospect : Setup → Configuration → World → Event → Prospect
-prospect s g w e = record { event = e; ruling = ruling s w e; wants = wants_by (wants_of s g w e) (ruling s w e) }
+prospect s g w e = record { event = e; ruling = ruling s w e; requirements = requirements_by (requirements_of s g w e) (ruling s w e) }
 
 -- the prospects of these candidates
 abbrev pub prospects_of : Setup → Configuration → World → List Event → List Prospect
@@ -111,7 +111,7 @@ prospects_of s g w es = map (prospect s g w) (filter (λ e. is_shown s w e (ruli
 
 -- whether the event never comes
 abbrev pub is_lost : Prospect → Bool
-is_lost p = list_any is_never p.wants
+is_lost p = list_any is_never p.requirements
 
 abbrev pub is_refused : Ruling → Bool
 is_refused rulings.Can = false
@@ -148,34 +148,34 @@ useful ps = if list_any (λ p. takes p.event) ps then ps else filter (λ p. not 
 
 -- ---- on whom something waits
 
--- the party that is to give what is wanting
-abbrev pub awaited : Want → Option (List ℕ)
-awaited (wants.Advert k) = None
-awaited (wants.Deposit x) = None
-awaited (wants.Gone x) = None
-awaited wants.NobodyHonest = None
-awaited (wants.Missing secret) = None
-awaited (wants.BadLength secret) = None
-awaited (wants.Repeated secret) = None
-awaited (wants.Digest party k secret) = Some party
-awaited (wants.Commitment party k) = Some party
-awaited (wants.Endorsement party k) = Some party
-awaited (wants.Start party k) = Some party
-awaited (wants.Beginning k) = None
-awaited (wants.Height height blocks) = None
-awaited (wants.Authorisation party n i) = Some party
-awaited (wants.Put x) = None
-awaited (wants.Secret party k secret) = Some party
-awaited (wants.Posted party secret) = Some party
-awaited wants.Predicate = None
+-- the party that is to give what is missing
+abbrev pub awaited : Requirement → Option (List ℕ)
+awaited (requirements.Advert k) = None
+awaited (requirements.Deposit x) = None
+awaited (requirements.Gone x) = None
+awaited requirements.NobodyHonest = None
+awaited (requirements.Missing secret) = None
+awaited (requirements.BadLength secret) = None
+awaited (requirements.Repeated secret) = None
+awaited (requirements.Digest party k secret) = Some party
+awaited (requirements.Commitment party k) = Some party
+awaited (requirements.Endorsement party k) = Some party
+awaited (requirements.Start party k) = Some party
+awaited (requirements.Beginning k) = None
+awaited (requirements.Height height blocks) = None
+awaited (requirements.Authorisation party n i) = Some party
+awaited (requirements.Put x) = None
+awaited (requirements.Secret party k secret) = Some party
+awaited (requirements.Posted party secret) = Some party
+awaited requirements.Predicate = None
 
 -- whether it is for this party to give
 abbrev pub is_for_whom : Option (List ℕ) → List ℕ → Bool
 is_for_whom None party = false
 is_for_whom (Some name) party = bytes_eq name party
 
-abbrev pub is_for : Want → List ℕ → Bool
-is_for want party = is_for_whom (awaited want) party
+abbrev pub is_for : Requirement → List ℕ → Bool
+is_for requirement party = is_for_whom (awaited requirement) party
 
 -- whether an event is this party's commitment to the contract
 abbrev pub is_commitment : List ℕ → ℕ → Event → Bool
@@ -202,13 +202,13 @@ abbrev pub is_reveal : List ℕ → ℕ → List ℕ → Event → Bool
 is_reveal party k secret (events.Reveal contract who name) = bytes_eq who party && (contract == k) && bytes_eq name secret
 is_reveal party k secret _ = false
 
--- whether the event gives what is wanting
-abbrev pub gives : Want → Event → Bool
-gives (wants.Commitment party k) e = is_commitment party k e
-gives (wants.Endorsement party k) e = is_endorsement party k e
-gives (wants.Start party k) e = is_start party k e
-gives (wants.Authorisation party n i) e = is_authorisation party n i e
-gives (wants.Secret party k secret) e = is_reveal party k secret e
+-- whether the event gives what is missing
+abbrev pub gives : Requirement → Event → Bool
+gives (requirements.Commitment party k) e = is_commitment party k e
+gives (requirements.Endorsement party k) e = is_endorsement party k e
+gives (requirements.Start party k) e = is_start party k e
+gives (requirements.Authorisation party n i) e = is_authorisation party n i e
+gives (requirements.Secret party k secret) e = is_reveal party k secret e
 gives _ e = false
 
 abbrev pub can_come : Ruling → Bool
@@ -217,23 +217,23 @@ can_come (rulings.Cannot reason) = false
 can_come rulings.Halts = false
 
 -- whether one of these events gives it and can come
-abbrev pub is_given : List Prospect → Want → Bool
-is_given ps want = list_any (λ p. can_come p.ruling && gives want p.event) ps
+abbrev pub is_given : List Prospect → Requirement → Bool
+is_given ps requirement = list_any (λ p. can_come p.ruling && gives requirement p.event) ps
 
 -- whether nothing stands in the way of giving it by an event that isn't listed: digests, once the contract is advertised, and strings that
 -- are posted
-abbrev pub is_open : Configuration → Want → Bool
-is_open g (wants.Digest party k secret) = has_advert g.advertised k
-is_open g (wants.Posted party secret) = true
+abbrev pub is_open : Configuration → Requirement → Bool
+is_open g (requirements.Digest party k secret) = has_advert g.advertised k
+is_open g (requirements.Posted party secret) = true
 is_open g _ = false
 
 -- whether it can be given now
-abbrev pub is_at_hand : Configuration → List Prospect → Want → Bool
-is_at_hand g ps want = is_open g want || is_given ps want
+abbrev pub is_at_hand : Configuration → List Prospect → Requirement → Bool
+is_at_hand g ps requirement = is_open g requirement || is_given ps requirement
 
--- whether this party can give now what is wanting for one of these prospects
+-- whether this party can give now what is missing for one of these prospects
 abbrev pub is_waited_for : Configuration → List Prospect → List ℕ → Bool
-is_waited_for g ps party = list_any (λ p. list_any (λ want. is_for want party && is_at_hand g ps want) p.wants) ps
+is_waited_for g ps party = list_any (λ p. list_any (λ requirement. is_for requirement party && is_at_hand g ps requirement) p.requirements) ps
 
 -- those of these people on whom one of the prospects waits
 abbrev pub waits : Configuration → List (List ℕ) → List Prospect → List (List ℕ)

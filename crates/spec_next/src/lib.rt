@@ -1,8 +1,9 @@
-//! What comes next in a run: what each party can do, what is wanting for the rest, and the first lines of a run.
+//! The definition of what `bitml next` says: which events are listed, what each lacks, whom it waits for, and the first
+//! lines of a run.
 #![tactic(auto)]
 
 pub mod outlook;
-pub mod want;
+pub mod requirement;
 
 pub use outlook::{Outlook, Prospect, Ruling};
-pub use want::Want;
+pub use requirement::Requirement;

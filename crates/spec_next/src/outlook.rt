@@ -2,7 +2,7 @@
 
 ghost use Rattle.std.specs.Prelude.{◌≡◌, IfOk};
 
-use crate::want::{Want, copy_wants};
+use crate::requirement::{Requirement, copy_requirements};
 use spec_data::{Name, OutOfMemory, Seq};
 use spec_run::{Event, Reason};
 use std::alloc::Global;
@@ -25,11 +25,11 @@ impl Drop for Ruling {
     }
 }
 
-/// An event that a contract has ahead, what it would come to, and what is wanting for it.
+/// An event that a contract has ahead, what it would come to, and what is missing for it.
 pub struct Prospect {
     pub event: Event,
     pub ruling: Ruling,
-    pub wants: Seq<Want>,
+    pub requirements: Seq<Requirement>,
 }
 
 impl Drop for Prospect {
@@ -37,12 +37,12 @@ impl Drop for Prospect {
         let Prospect {
             event: _,
             ruling: _,
-            wants: _,
+            requirements: _,
         } = self;
     }
 }
 
-/// The events that a contract has ahead, and the parties that can give now what is wanting for one of them.
+/// The events that a contract has ahead, and the parties that can give now what is missing for one of them.
 pub struct Outlook {
     pub prospects: Seq<Prospect>,
     pub waits: Seq<Name>,
@@ -78,7 +78,7 @@ impl Prospect {
         Ok(Prospect {
             event: self.event.copy(alloc)?,
             ruling: self.ruling.copy(alloc)?,
-            wants: copy_wants(alloc, self.wants.as_slice())?,
+            requirements: copy_requirements(alloc, self.requirements.as_slice())?,
         })
     }
 }

@@ -1,2 +1,3 @@
-//! A contract as a list of numbered nodes, by which code walks it: as data and definitions.
+//! The definition of a contract as a list of numbered nodes. Code walks these; `theory_nodes` says that they give what
+//! the tree gives.
 #![tactic(auto)]

@@ -4,8 +4,8 @@
 --  1  the contract file is refused
 --  2  the words aren't two
 --  3  a read failed; nothing is written
---  4  the write failed; a front of the text is written
---  5  memory was wanting; nothing is written
+--  4  the write failed; a prefix of the text is written
+--  5  memory ran out; nothing is written
 --  6  the run file is refused
 --  7  the picture of a run in which an event guesses a secret
 --  8  the picture of a run of which the opening or an event collides

@@ -11,7 +11,7 @@ use Rattle.spec_picture.specs.declared.tree_row.Ways.{Ways}
 use Rattle.spec_picture.specs.declared.tree_row.Ways.TheVariants.{Ends, One, Any, All}
 use Rattle.spec_picture.specs.Shapes.{Shape, label, box, dot, line, Group}
 use Rattle.spec_picture.specs.Taken.{Places, output_at, reached_from, is_out_of_reach}
-use Rattle.spec_picture.specs.Words.{node_id, reached_text, made_text, party_look}
+use Rattle.spec_picture.specs.Words.{node_id, reached_text, generated_text, party_look}
 
 -- ---- what the run came to
 
@@ -37,13 +37,13 @@ row_look takes offered event output r =
 
 -- a transaction's name, the event that reached it, and the output that it made
 abbrev pub name_text : TreeRow → Option ℕ → Option ℕ → List ℕ
-name_text r event output = which_text r.which ++ (reached_text event ++ made_text output)
+name_text r event output = which_text r.which ++ (reached_text event ++ generated_text output)
 
 abbrev pub sum_text : ℕ → ℕ → List ℕ
 sum_text value fee = decimal value ++ (codes ", fee " ++ decimal fee)
 
 abbrev pub part_text : ℕ → Option ℕ → List ℕ
-part_text value output = decimal value ++ made_text output
+part_text value output = decimal value ++ generated_text output
 
 -- the number of a name in a list of different ones, that of the list's length where it isn't there
 abbrev pub number_of : List ℕ → List (List ℕ) → ℕ

@@ -23,7 +23,7 @@ pub record Group : Type 0 where
 
 -- ---- elements
 
--- A text of at most so many letters. Of a longer one a front is shown, with two dots, and the whole text is its title.
+-- A text of at most so many letters. Of a longer one a prefix is shown, with two dots, and the whole text is its title.
 abbrev pub shown : ℕ → List ℕ → Content
 shown most text =
     if nat_le (length text) most then words text nothing

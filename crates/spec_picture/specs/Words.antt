@@ -97,9 +97,9 @@ reached_text None = []
 reached_text (Some n) = codes " event " ++ decimal n
 
 -- and the output that it made
-abbrev pub made_text : Option ℕ → List ℕ
-made_text None = []
-made_text (Some n) = codes " " ++ output_text n
+abbrev pub generated_text : Option ℕ → List ℕ
+generated_text None = []
+generated_text (Some n) = codes " " ++ output_text n
 
 -- the look of the party with this number among the participants
 abbrev pub party_look : ℕ → List ℕ

@@ -1,4 +1,4 @@
-//! The picture of a contract and of a run with it: what is drawn, by plain data, and its text.
+//! The definition of pictures: what is drawn of a contract and a run, where, and in which bytes.
 #![tactic(auto)]
 
 pub mod last;

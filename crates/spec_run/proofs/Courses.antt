@@ -6,15 +6,15 @@ use Rattle.spec_run.specs.declared.header.HeldSecret.{HeldSecret}
 use Rattle.spec_run.specs.Setup.{Setup}
 use Rattle.spec_data.specs.Messages.{collision}
 use Rattle.spec_run.specs.World.{World}
-use Rattle.spec_run.specs.Draft.{Draft, Answer, Went, Halted, Halt, guess, settled, settle}
-use Rattle.spec_run.specs.Event.{Passed, Progress, draft, event, goes_on, played_from, onto_passed}
+use Rattle.spec_run.specs.Pending.{Pending, Answer, Went, Halted, Halt, guess, applied, apply}
+use Rattle.spec_run.specs.Event.{Passed, Progress, pending, event, goes_on, played_from, onto_passed}
 use Rattle.spec_run.specs.Translation.{turn_of, turns_from, world_after, last_or}
 
 -- ---- the first event
 
 -- an event that goes on, and the events after it
-pub played-went : (s : Setup) (w : World) (e : Event) (es : List Event) (d : Draft) (next : World) → event s w e ≡ Went d next
-    → played_from s w (e ∷ es) ≡ onto_passed (record { event = e; draft = d; world = next }) (played_from s next es)
+pub played-went : (s : Setup) (w : World) (e : Event) (es : List Event) (d : Pending) (next : World) → event s w e ≡ Went d next
+    → played_from s w (e ∷ es) ≡ onto_passed (record { event = e; pending = d; world = next }) (played_from s next es)
 played-went s w e es d next h = ap (λ (a : Answer). goes_on e a (λ x. played_from s x es)) h
 
 -- an event that halts
@@ -59,7 +59,7 @@ turns_more s z (q ∷ ps) p g w = λ i. turn_of s z g w q ∷ turns_more s z ps 
 
 -- what an event comes to in a world
 abbrev pub passing : Setup → World → Event → Passed
-passing s w e = record { event = e; draft = draft s w e; world = settled w (draft s w e) }
+passing s w e = record { event = e; pending = pending s w e; world = applied w (pending s w e) }
 
 abbrev with_one : List Passed → Passed → Progress
 with_one ps p = record { passed = ps ++ p ∷ []; halt = None }
@@ -67,24 +67,24 @@ with_one ps p = record { passed = ps ++ p ∷ []; halt = None }
 -- where all of these events went on, and so does one more
 pub played_more : (s : Setup) (es : List Event) (e : Event) (w : World) (last : World)
     → (played_from s w es).halt ≡ None → world_after w (played_from s w es).passed ≡ last
-    → collision s.hash last.hashed (draft s last e).hashes ≡ None
-    → guess s last.posted (draft s last e).posts (draft s last e).allowed ≡ None
+    → collision s.hash last.hashed (pending s last e).hashes ≡ None
+    → guess s last.posted (pending s last e).posts (pending s last e).allowed ≡ None
     → played_from s w (es ++ e ∷ []) ≡ with_one (played_from s w es).passed (passing s last e)
 played_more s [] e w last on there calm unguessed =
     subst (λ x. goes_on e (event s x e) (λ next. played_from s next []) ≡ with_one [] (passing s last e)) (sym there)
     (rw (calm, unguessed) refl)
 played_more s (x ∷ es) e w last on there calm unguessed =
-    let d = draft s w x in
+    let d = pending s w x in
     by_answer (collision s.hash w.hashed d.hashes) (guess s w.posted d.posts d.allowed) on there
     (λ next f t. played_more s es e next last f t calm unguessed)
   where
     by_answer : (c : Option (List ℕ × List ℕ)) (u : Option HeldSecret)
-        → (goes_on x (settle w (draft s w x) c u) (λ next. played_from s next es)).halt ≡ None
-        → world_after w (goes_on x (settle w (draft s w x) c u) (λ next. played_from s next es)).passed ≡ last
+        → (goes_on x (apply w (pending s w x) c u) (λ next. played_from s next es)).halt ≡ None
+        → world_after w (goes_on x (apply w (pending s w x) c u) (λ next. played_from s next es)).passed ≡ last
         → ((next : World) → (played_from s next es).halt ≡ None → world_after next (played_from s next es).passed ≡ last
         → played_from s next (es ++ e ∷ []) ≡ with_one (played_from s next es).passed (passing s last e))
-        → goes_on x (settle w (draft s w x) c u) (λ next. played_from s next (es ++ e ∷ []))
-        ≡ with_one (goes_on x (settle w (draft s w x) c u) (λ next. played_from s next es)).passed (passing s last e)
+        → goes_on x (apply w (pending s w x) c u) (λ next. played_from s next (es ++ e ∷ []))
+        ≡ with_one (goes_on x (apply w (pending s w x) c u) (λ next. played_from s next es)).passed (passing s last e)
     by_answer (Some pair) u f t ih = cc
     by_answer None (Some held) f t ih = cc
-    by_answer None None f t ih = ap (onto_passed (passing s w x)) (ih (settled w (draft s w x)) f t)
+    by_answer None None f t ih = ap (onto_passed (passing s w x)) (ih (applied w (pending s w x)) f t)

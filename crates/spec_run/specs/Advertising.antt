@@ -8,11 +8,11 @@ use Rattle.spec_run.specs.declared.outcome.Reason.TheVariants as reason
 use Rattle.spec_run.specs.Setup.{Setup, has_contract, pre_at, people_at, is_honest, bytes_or_none}
 use Rattle.spec_run.specs.World.{World, output_at, is_deposit, is_advertised}
 use Rattle.spec_run.specs.Owners.{suits}
-use Rattle.spec_run.specs.Draft.{Draft, done, unless}
+use Rattle.spec_run.specs.Pending.{Pending, done, unless}
 
 -- whether the names are these, each once, in any order
 abbrev pub are_rearranged : List (List ℕ) → List (List ℕ) → Bool
-are_rearranged names wanted = are_different names && list_all (λ n. is_among n wanted) names && list_all (λ n. is_among n names) wanted
+are_rearranged names required = are_different names && list_all (λ n. is_among n required) names && list_all (λ n. is_among n names) required
 
 -- what was looked up, or else this
 abbrev pub or_else_this : {V : Type 0} → V → Option V → V
@@ -36,7 +36,7 @@ abbrev pub not_live : World → List (List ℕ × ℕ) → Option (List ℕ)
 not_live w [] = None
 not_live w (b ∷ bs) = if is_deposit (output_at w (b.1)) then not_live w bs else Some (b.0)
 
--- the name of the first binding to a deposit of another owner or value than the precondition wants
+-- the name of the first binding to a deposit of another owner or value than the precondition needs
 abbrev pub unsuited : Setup → World → ℕ → List (List ℕ × ℕ) → Option (List ℕ)
 unsuited s w contract [] = None
 unsuited s w contract (b ∷ bs) =
@@ -49,7 +49,7 @@ abbrev pub deposit_names : Setup → ℕ → List (List ℕ)
 deposit_names s contract = names_of (deposits (pre_at s contract))
 
 -- `advertise K x=#n ..`: the contract is there and not advertised yet, the names are those of its deposits, no two bind one output,
--- all are bound to live deposits of the owner and value that are wanted, and a participant is honest
+-- all are bound to live deposits of the owner and value that are needed, and a participant is honest
 abbrev pub advertise_row : Setup → World → ℕ → List (List ℕ × ℕ) → List (Bool × Reason)
 advertise_row s w contract bindings =
     (not (has_contract s contract), reason.NoContract)
@@ -61,8 +61,8 @@ advertise_row s w contract bindings =
     ∷ (not (list_any (is_honest s) (people_at s contract)), reason.NoHonest)
     ∷ []
 
-abbrev pub advertise_draft : Setup → World → ℕ → List (List ℕ × ℕ) → Draft
-advertise_draft s w contract bindings =
+abbrev pub advertise_pending : Setup → World → ℕ → List (List ℕ × ℕ) → Pending
+advertise_pending s w contract bindings =
     unless (first_reason (advertise_row s w contract bindings)) w []
     (done (record w {
       advertised = w.advertised

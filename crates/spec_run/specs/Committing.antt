@@ -12,7 +12,7 @@ use Rattle.spec_run.specs.Setup.{Setup, has_contract, pre_at, takes_part, is_hon
 use Rattle.spec_run.specs.World.{Promise, World, is_advertised, has_promised}
 use Rattle.spec_run.specs.Compiled.{compiled_instance}
 use Rattle.spec_run.specs.Advertising.{are_rearranged, arranged}
-use Rattle.spec_run.specs.Draft.{Draft, done, unless}
+use Rattle.spec_run.specs.Pending.{Pending, done, unless}
 
 -- the names of a party's secrets in a contract, in the precondition's order
 abbrev pub secrets_at : Setup → ℕ → List ℕ → List (List ℕ)
@@ -118,11 +118,11 @@ abbrev pub strings_compiled : Setup → Option Instance → List (List ℕ)
 strings_compiled s None = []
 strings_compiled s (Some instance) = compiled_strings s.hash instance
 
-abbrev pub committed_draft : Setup → World → ℕ → List ℕ → List (List ℕ) → Draft
-committed_draft s next contract party strings = done next (strings ++ strings_compiled s (compiled_instance s next contract))
+abbrev pub committed_pending : Setup → World → ℕ → List ℕ → List (List ℕ) → Pending
+committed_pending s next contract party strings = done next (strings ++ strings_compiled s (compiled_instance s next contract))
 
-abbrev pub commit_draft : Setup → World → ℕ → List ℕ → List (List ℕ × List ℕ) → Draft
-commit_draft s w contract party digests =
+abbrev pub commit_pending : Setup → World → ℕ → List ℕ → List (List ℕ × List ℕ) → Pending
+commit_pending s w contract party digests =
     unless (first_reason (commit_row s w contract party digests)) w []
     (unless (first_reason (digest_row s w contract party digests)) w (committed_strings s contract party)
-    (committed_draft s (with_promise s w contract party digests) contract party (committed_strings s contract party)))
+    (committed_pending s (with_promise s w contract party digests) contract party (committed_strings s contract party)))

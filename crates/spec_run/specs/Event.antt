@@ -17,14 +17,14 @@ use Rattle.spec_run.specs.declared.outcome.Record.{Record}
 use Rattle.spec_run.specs.Setup.{Setup}
 use Rattle.spec_data.specs.Messages.{noted_all, collision}
 use Rattle.spec_run.specs.World.{ContractPosition, World}
-use Rattle.spec_run.specs.Draft.{Draft, Answer, Went, Halted, Halt, done, posting, refused, unless, answer}
+use Rattle.spec_run.specs.Pending.{Pending, Answer, Went, Halted, Halt, done, posting, refused, unless, answer}
 use Rattle.spec_run.specs.Owners.{paid_to}
-use Rattle.spec_run.specs.Advertising.{advertise_draft}
-use Rattle.spec_run.specs.Committing.{commit_draft}
-use Rattle.spec_run.specs.Signing.{endorse_draft, init_draft, authorise_draft, sign_draft}
-use Rattle.spec_run.specs.Revealing.{reveal_draft}
-use Rattle.spec_run.specs.Giving.{give_draft}
-use Rattle.spec_run.specs.Firing.{fire_init_draft, fire_draft}
+use Rattle.spec_run.specs.Advertising.{advertise_pending}
+use Rattle.spec_run.specs.Committing.{commit_pending}
+use Rattle.spec_run.specs.Signing.{endorse_pending, init_pending, authorise_pending, sign_pending}
+use Rattle.spec_run.specs.Revealing.{reveal_pending}
+use Rattle.spec_run.specs.Giving.{give_pending}
+use Rattle.spec_run.specs.Firing.{fire_init_pending, fire_pending}
 use Rattle.spec_run.specs.Ledger.{made_from, reaches}
 
 -- ---- the opening
@@ -63,7 +63,7 @@ opening_collision s = collision s.hash [] (opening_strings s)
 -- ---- raw transactions and blocks
 
 -- a raw transaction that was read, or the place of its fault
-abbrev pub append_read : Setup → World → Result Tx ℕ → Draft
+abbrev pub append_read : Setup → World → Result Tx ℕ → Pending
 append_read s w (Ok tx) = reaches s w w tx
 append_read s w (Err place) = refused w [] (reason.BadTx place)
 
@@ -71,40 +71,40 @@ append_read s w (Err place) = refused w [] (reason.BadTx place)
 abbrev pub mine_row : World → ℕ → List (Bool × Reason)
 mine_row w blocks = (not (nat_le (w.tip + blocks) last_height), reason.TimeLimit) ∷ []
 
-abbrev pub mine_draft : World → ℕ → Draft
-mine_draft w blocks = unless (first_reason (mine_row w blocks)) w [] (done (record w { tip = w.tip + blocks }) [])
+abbrev pub mine_pending : World → ℕ → Pending
+mine_pending w blocks = unless (first_reason (mine_row w blocks)) w [] (done (record w { tip = w.tip + blocks }) [])
 
 -- ---- all events
 
 -- what an event comes to, where nothing collides and nothing is guessed
-abbrev pub draft : Setup → World → Event → Draft
-draft s w (events.Advertise contract bindings) = advertise_draft s w contract bindings
-draft s w (events.Commit contract party digests) = commit_draft s w contract party digests
-draft s w (events.Endorse contract party) = endorse_draft s w contract party
-draft s w (events.Init contract party) = init_draft s w contract party
-draft s w (events.Authorise party output branch) = authorise_draft s w party output branch
-draft s w (events.Reveal contract party secret) = reveal_draft s w contract party secret
-draft s w (events.Post bytes) = posting w bytes None
-draft s w (events.Sign party label digest) = sign_draft s w party label digest
-draft s w (events.Give party inputs outputs) = give_draft s w party inputs outputs
-draft s w (events.Append bytes) = append_read s w (transaction_of bytes)
-draft s w (events.FireInit contract) = fire_init_draft s w contract
-draft s w (events.Fire output branch) = fire_draft s w output branch
-draft s w (events.Mine blocks) = mine_draft w blocks
+abbrev pub pending : Setup → World → Event → Pending
+pending s w (events.Advertise contract bindings) = advertise_pending s w contract bindings
+pending s w (events.Commit contract party digests) = commit_pending s w contract party digests
+pending s w (events.Endorse contract party) = endorse_pending s w contract party
+pending s w (events.Init contract party) = init_pending s w contract party
+pending s w (events.Authorise party output branch) = authorise_pending s w party output branch
+pending s w (events.Reveal contract party secret) = reveal_pending s w contract party secret
+pending s w (events.Post bytes) = posting w bytes None
+pending s w (events.Sign party label digest) = sign_pending s w party label digest
+pending s w (events.Give party inputs outputs) = give_pending s w party inputs outputs
+pending s w (events.Append bytes) = append_read s w (transaction_of bytes)
+pending s w (events.FireInit contract) = fire_init_pending s w contract
+pending s w (events.Fire output branch) = fire_pending s w output branch
+pending s w (events.Mine blocks) = mine_pending w blocks
 
 -- what is left of an event in this world
 abbrev pub event : Setup → World → Event → Answer
-event s w e = answer s w (draft s w e)
+event s w e = answer s w (pending s w e)
 
 -- ---- a run
 
-abbrev pub record_of : Event → Draft → Record
+abbrev pub record_of : Event → Pending → Record
 record_of e d = record { event = e; outcome = d.outcome; tx = d.tx }
 
 -- an event that went on, with what it came to and the world that it left
 pub record Passed : Type 0 where
   pub event : Event
-  pub draft : Draft
+  pub pending : Pending
   pub world : World
 
 -- the events that went on, up to the first halt, and the halt with its event
@@ -118,7 +118,7 @@ onto_passed first later = record { passed = first ∷ later.passed; halt = later
 -- an event and those after it: they are played from the world that it left, unless it halts
 abbrev pub goes_on : Event → Answer → (World → Progress) → Progress
 goes_on e (Halted halt) later = record { passed = []; halt = Some (e, halt) }
-goes_on e (Went d next) later = onto_passed (record { event = e; draft = d; world = next }) (later next)
+goes_on e (Went d next) later = onto_passed (record { event = e; pending = d; world = next }) (later next)
 
 -- these events, from this world on. Nothing else plays events: all that is said and printed of a run is read off this list
 abbrev pub played_from : Setup → World → List Event → Progress

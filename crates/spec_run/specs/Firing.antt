@@ -23,7 +23,7 @@ use Rattle.spec_run.specs.Revealing.{fitting}
 use Rattle.spec_run.specs.Ledger.{reaches, position_path, contract_in, count_of}
 use Rattle.spec_run.specs.Signing.{branch_if_live, first_digest, prepared_if_compiled}
 use Rattle.spec_run.specs.Giving.{deposit_witness}
-use Rattle.spec_run.specs.Draft.{Draft, refused, unless}
+use Rattle.spec_run.specs.Pending.{Pending, refused, unless}
 
 -- ---- witnesses
 
@@ -61,7 +61,7 @@ fire_init_row s w contract =
     ∷ []
 
 -- the transaction, where there is one, reaches the ledger
-abbrev pub reaches_if : Setup → World → Option Tx → Draft
+abbrev pub reaches_if : Setup → World → Option Tx → Pending
 reaches_if s w None = refused w [] reason.NotCompiled
 reaches_if s w (Some tx) = reaches s w w tx
 
@@ -69,8 +69,8 @@ abbrev pub initial_by : Setup → Option Instance → Option Tx
 initial_by s None = None
 initial_by s (Some instance) = Some (initial_transaction s instance)
 
-abbrev pub fire_init_draft : Setup → World → ℕ → Draft
-fire_init_draft s w contract =
+abbrev pub fire_init_pending : Setup → World → ℕ → Pending
+fire_init_pending s w contract =
     unless (first_reason (fire_init_row s w contract)) w [] (reaches_if s w (initial_by s (compiled_instance s w contract)))
 
 -- ---- the transaction of a branch
@@ -163,6 +163,6 @@ taking_of_position s w (Some held) branch =
     (branch_if_live s (Some held) branch)
     (prepared_if_compiled s (compiled_instance s w held.contract) (position_path held branch))
 
-abbrev pub fire_draft : Setup → World → ℕ → ℕ → Draft
-fire_draft s w output branch =
+abbrev pub fire_pending : Setup → World → ℕ → ℕ → Pending
+fire_pending s w output branch =
     unless (first_reason (fire_row s w output branch)) w [] (reaches_if s w (taking_of_position s w (live_position_at w output) branch))

@@ -21,7 +21,7 @@ use Rattle.spec_run.specs.Owners.{paid_to, owner_of, deposit_value}
 use Rattle.spec_run.specs.Compiled.{outpoint_of}
 use Rattle.spec_run.specs.Signing.{with_pairs}
 use Rattle.spec_run.specs.Ledger.{reaches}
-use Rattle.spec_run.specs.Draft.{Draft, unless}
+use Rattle.spec_run.specs.Pending.{Pending, unless}
 
 -- ---- refusals
 
@@ -91,7 +91,7 @@ abbrev pub given_pairs : Setup → World → List ℕ → List ℕ → List (Lis
 given_pairs s w party inputs outputs =
     map {B = Pair} (λ n. (deposit_key s.hash party, given_digest s w party (unsigned_gift s w inputs outputs) n)) inputs
 
-abbrev pub give_draft : Setup → World → List ℕ → List ℕ → List (List ℕ × ℕ) → Draft
-give_draft s w party inputs outputs =
+abbrev pub give_pending : Setup → World → List ℕ → List ℕ → List (List ℕ × ℕ) → Pending
+give_pending s w party inputs outputs =
     unless (first_reason (give_row s w party inputs outputs)) w []
     (reaches s w (with_pairs w (given_pairs s w party inputs outputs)) (gift s w party inputs outputs))

@@ -7,8 +7,8 @@ use Rattle.spec_run.specs.declared.event.Event.{Event}
 use Rattle.spec_run.specs.declared.event.Event.TheVariants as events
 use Rattle.spec_run.specs.Setup.{Setup}
 use Rattle.spec_run.specs.World.{World}
-use Rattle.spec_run.specs.Draft.{Halt, Collided, Guessed}
-use Rattle.spec_run.specs.Event.{opening_strings, draft}
+use Rattle.spec_run.specs.Pending.{Halt, Collided, Guessed}
+use Rattle.spec_run.specs.Event.{opening_strings, pending}
 
 -- ---- strings with one digest
 
@@ -37,7 +37,7 @@ IsOwnReveal _ secret = ⊥
 
 -- the event would post the secret's bytes, which weren't posted before, and isn't its owner's reveal of it
 pub record GivesAway (s : Setup) (w : World) (e : Event) (secret : HeldSecret) : Type 0 where
-  pub posted_now : is_among secret.bytes (draft s w e).posts ≡ true
+  pub posted_now : is_among secret.bytes (pending s w e).posts ≡ true
   pub not_before : is_among secret.bytes w.posted ≡ false
   pub not_own : IsOwnReveal e secret → ⊥
 
@@ -60,11 +60,11 @@ pub record Guesses (s : Setup) (w : World) (e : Event) (secrets : List HeldSecre
 
 -- the strings hashed before and those of the event don't collide
 abbrev pub IsCalm : Setup → World → Event → Type 0
-IsCalm s w e = AreApart s.hash (w.hashed ++ (draft s w e).hashes)
+IsCalm s w e = AreApart s.hash (w.hashed ++ (pending s w e).hashes)
 
 -- what the event halts with is there; a collision comes before a guess
 abbrev pub HaltIsThere : Setup → World → Event → Halt → Type 0
-HaltIsThere s w e (Collided earlier later) = Collides s.hash w.hashed (draft s w e).hashes earlier later
+HaltIsThere s w e (Collided earlier later) = Collides s.hash w.hashed (pending s w e).hashes earlier later
 HaltIsThere s w e (Guessed party secret) = IsCalm s w e × Guesses s w e s.header.secrets party secret
 
 -- an event that goes on has neither

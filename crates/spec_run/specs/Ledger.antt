@@ -27,7 +27,7 @@ use Rattle.spec_run.specs.declared.outcome.Reason.TheVariants as reason
 use Rattle.spec_run.specs.Setup.{Setup, contract_at}
 use Rattle.spec_run.specs.World.{ContractPosition, Output, World, live_position_at}
 use Rattle.spec_run.specs.Compiled.{compiled_instance}
-use Rattle.spec_run.specs.Draft.{Draft, refused}
+use Rattle.spec_run.specs.Pending.{Pending, refused}
 
 -- ---- the ledger in the world
 
@@ -193,7 +193,7 @@ abbrev pub strings_of : Setup → World → Tx → List (List ℕ)
 strings_of s w tx = transaction_strings s.hash (live_from 0 w.outputs) tx
 
 -- an accepted transaction, in the world with what its event has signed
-abbrev pub accepted : Setup → World → Tx → List ℕ → Draft
+abbrev pub accepted : Setup → World → Tx → List ℕ → Pending
 accepted s signed tx spent = record {
   outcome = outcomes.Accepted spent (made_with_values (length signed.outputs) tx.outputs) tx.lock;
   tx = Some tx;
@@ -203,10 +203,10 @@ accepted s signed tx spent = record {
   allowed = None;
 }
 
-abbrev pub judged : Setup → World → World → Tx → Verdict → Draft
+abbrev pub judged : Setup → World → World → Tx → Verdict → Pending
 judged s w signed tx (verdicts.Accepted spent made) = accepted s signed tx spent
 judged s w signed tx (verdicts.Refused r) = refused w (strings_of s signed tx) (reason.Ledger r)
 
 -- whatever reaches the ledger: w is the world before the event, and the other one has what the event has signed
-abbrev pub reaches : Setup → World → World → Tx → Draft
+abbrev pub reaches : Setup → World → World → Tx → Pending
 reaches s w signed tx = judged s w signed tx (verdict_in s signed tx)

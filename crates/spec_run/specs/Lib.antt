@@ -1,6 +1,6 @@
 pub mod Setup
 pub mod World
-pub mod Draft
+pub mod Pending
 pub mod Owners
 pub mod Advertising
 pub mod Compiled

@@ -33,8 +33,8 @@ abbrev pub deposit_value : Option Output → ℕ
 deposit_value None = 0
 deposit_value (Some o) = if is_deposit (Some o) then o.value else 0
 
--- whether it is a live deposit with the owner and the value that a precondition wants
+-- whether it is a live deposit with the owner and the value that a precondition needs
 abbrev pub suits : Setup → Option Holding → Option Output → Bool
 suits s None output = false
-suits s (Some wanted) output =
-    is_deposit output && owner_eq (owner_of s output) (Party wanted.owner) && (deposit_value output == wanted.value)
+suits s (Some required) output =
+    is_deposit output && owner_eq (owner_of s output) (Party required.owner) && (deposit_value output == required.value)

@@ -8,7 +8,7 @@ use Rattle.spec_run.specs.declared.outcome.Reason.TheVariants as reason
 use Rattle.spec_run.specs.Setup.{Setup, has_contract, is_honest, held_secret, bytes_or_none}
 use Rattle.spec_run.specs.World.{World, has_promised}
 use Rattle.spec_run.specs.Committing.{secrets_at, is_secret_long}
-use Rattle.spec_run.specs.Draft.{Draft, posting, unless}
+use Rattle.spec_run.specs.Pending.{Pending, posting, unless}
 
 -- whether a string has the size of a secret and this digest
 abbrev pub fits : Setup → List ℕ → List ℕ → Bool
@@ -34,6 +34,6 @@ reveal_row s w contract party secret =
     ∷ (is_among (own_secret s party secret) w.posted, reason.AlreadyRevealed)
     ∷ []
 
-abbrev pub reveal_draft : Setup → World → ℕ → List ℕ → List ℕ → Draft
-reveal_draft s w contract party secret =
+abbrev pub reveal_pending : Setup → World → ℕ → List ℕ → List ℕ → Pending
+reveal_pending s w contract party secret =
     unless (first_reason (reveal_row s w contract party secret)) w [] (posting w (own_secret s party secret) (Some (party, secret)))

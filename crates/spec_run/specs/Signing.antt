@@ -20,7 +20,7 @@ use Rattle.spec_run.specs.Setup.{Setup, has_contract, takes_part, is_honest}
 use Rattle.spec_run.specs.World.{ContractPosition, World, live_position_at}
 use Rattle.spec_run.specs.Compiled.{compiled_instance}
 use Rattle.spec_run.specs.Ledger.{position_path, position_branch}
-use Rattle.spec_run.specs.Draft.{Draft, done, unless}
+use Rattle.spec_run.specs.Pending.{Pending, done, unless}
 
 -- ---- the book
 
@@ -61,8 +61,8 @@ endorse_row s w contract party =
     ∷ (not (is_some (compiled_instance s w contract)), reason.NotAllCommitted)
     ∷ []
 
-abbrev pub endorse_draft : Setup → World → ℕ → List ℕ → Draft
-endorse_draft s w contract party =
+abbrev pub endorse_pending : Setup → World → ℕ → List ℕ → Pending
+endorse_pending s w contract party =
     unless (first_reason (endorse_row s w contract party)) w []
     (done (with_pairs w (endorsing_pairs s party (compiled_instance s w contract))) [])
 
@@ -105,8 +105,8 @@ init_row s w contract party =
     ∷ (is_some (missed_need s w contract party), not_endorsed (missed_need s w contract party))
     ∷ []
 
-abbrev pub init_draft : Setup → World → ℕ → List ℕ → Draft
-init_draft s w contract party =
+abbrev pub init_pending : Setup → World → ℕ → List ℕ → Pending
+init_pending s w contract party =
     unless (first_reason (init_row s w contract party)) w []
     (done (with_pairs w (initial_pairs s party (compiled_instance s w contract))) [])
 
@@ -156,8 +156,8 @@ authorising_pairs s w party (Some held) branch =
     branch_pair s party held.contract (position_path held branch)
     (prepared_if_compiled s (compiled_instance s w held.contract) (position_path held branch))
 
-abbrev pub authorise_draft : Setup → World → List ℕ → ℕ → ℕ → Draft
-authorise_draft s w party output branch =
+abbrev pub authorise_pending : Setup → World → List ℕ → ℕ → ℕ → Pending
+authorise_pending s w party output branch =
     unless (first_reason (authorise_row s w party output branch)) w []
     (done (with_pairs w (authorising_pairs s w party (live_position_at w output) branch)) [])
 
@@ -175,7 +175,7 @@ sign_row s party label =
     ∷ (not (bytes_eq (label_party label) party), reason.NotOwner)
     ∷ []
 
-abbrev pub sign_draft : Setup → World → List ℕ → Label → List ℕ → Draft
-sign_draft s w party label digest =
+abbrev pub sign_pending : Setup → World → List ℕ → Label → List ℕ → Pending
+sign_pending s w party label digest =
     unless (first_reason (sign_row s party label)) w []
     (done (with_pairs w ((key_of s.hash label, digest) ∷ [])) (label_text label ∷ []))

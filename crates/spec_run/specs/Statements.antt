@@ -11,11 +11,11 @@ use Rattle.spec_run.specs.declared.event.Event.TheVariants as events
 use Rattle.spec_run.specs.declared.outcome.Record.{Record}
 use Rattle.spec_run.specs.Setup.{Setup}
 use Rattle.spec_run.specs.World.{World, live_position_at}
-use Rattle.spec_run.specs.Draft.{Answer, Went, Halted, Halt, settled}
+use Rattle.spec_run.specs.Pending.{Answer, Went, Halted, Halt, applied}
 use Rattle.spec_run.specs.Compiled.{compiled_instance}
 use Rattle.spec_run.specs.Ledger.{verdict_in}
 use Rattle.spec_run.specs.Firing.{initial_by, taking_of_position}
-use Rattle.spec_run.specs.Event.{draft, event, opening_world, opening_collision}
+use Rattle.spec_run.specs.Event.{pending, event, opening_world, opening_collision}
 use Rattle.spec_run.specs.Halting.{HaltIsThere, NothingHalts, SameStrings, OpeningIs}
 use Rattle.spec_run.specs.Steps.{steps_of}
 use Rattle.spec_run.specs.Translation.{Turn, record_in, opening_configuration, course, translated, in_order, last_configuration, last_world}
@@ -149,12 +149,12 @@ HonestDepositsTheorem = (s : Setup) (es : List Event) → IsRun s es → HoldsTh
 
 -- the event is what it comes to in the world before it, and nothing halts it
 pub record GoesOn (s : Setup) (w : World) (t : Turn) : Type 0 where
-  pub outcome : t.outcome ≡ (draft s w t.event).outcome
-  pub tx : t.tx ≡ (draft s w t.event).tx
-  pub world : t.world ≡ settled w (draft s w t.event)
+  pub outcome : t.outcome ≡ (pending s w t.event).outcome
+  pub tx : t.tx ≡ (pending s w t.event).tx
+  pub world : t.world ≡ applied w (pending s w t.event)
   pub halts : NothingHalts s w t.event
   -- the messages after it are those before it and what it hashes
-  pub hashed : SameStrings t.world.hashed (w.hashed ++ (draft s w t.event).hashes)
+  pub hashed : SameStrings t.world.hashed (w.hashed ++ (pending s w t.event).hashes)
 
 abbrev pub went_on : Setup → Claim
 went_on s before g w t = GoesOn s w t

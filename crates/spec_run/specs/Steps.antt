@@ -24,7 +24,7 @@ use Rattle.spec_run.specs.declared.outcome.Outcome.{Outcome}
 use Rattle.spec_run.specs.declared.outcome.Outcome.TheVariants as outcomes
 use Rattle.spec_run.specs.Setup.{Setup, pre_at, people_at}
 use Rattle.spec_run.specs.World.{World, output_at, is_deposit, bindings_at}
-use Rattle.spec_run.specs.Draft.{Draft}
+use Rattle.spec_run.specs.Pending.{Pending}
 use Rattle.spec_run.specs.Owners.{owner_by, owner_of}
 use Rattle.spec_run.specs.Advertising.{arranged, deposit_names}
 use Rattle.spec_run.specs.Committing.{secrets_at, committed_digests}
@@ -179,5 +179,5 @@ outcome_steps s strings g w next e tx (outcomes.Refused reason) = []
 
 -- the steps of an event that came to this and left the second world. The configuration is the one before the event, and the strings
 -- are those that are posted in the whole run
-abbrev pub steps_of : Setup → List (List ℕ) → Configuration → World → World → Event → Draft → List Step
+abbrev pub steps_of : Setup → List (List ℕ) → Configuration → World → World → Event → Pending → List Step
 steps_of s strings g w next e d = outcome_steps s strings g w next e d.tx d.outcome

@@ -9,7 +9,7 @@ use Rattle.spec_run.specs.declared.outcome.Outcome.{Outcome}
 use Rattle.spec_run.specs.declared.outcome.Record.{Record}
 use Rattle.spec_run.specs.Setup.{Setup}
 use Rattle.spec_run.specs.World.{World}
-use Rattle.spec_run.specs.Draft.{Halt}
+use Rattle.spec_run.specs.Pending.{Halt}
 use Rattle.spec_run.specs.Event.{Passed, Progress, opening_world, played}
 use Rattle.spec_run.specs.Steps.{steps_of}
 
@@ -37,8 +37,8 @@ pub record Course : Type 0 where
 abbrev pub turn_by : Configuration → Passed → List Step → Turn
 turn_by g p steps = record {
   event = p.event;
-  outcome = p.draft.outcome;
-  tx = p.draft.tx;
+  outcome = p.pending.outcome;
+  tx = p.pending.tx;
   steps = steps;
   configuration = after_steps g steps;
   world = p.world;
@@ -46,7 +46,7 @@ turn_by g p steps = record {
 
 -- the turn of an event that went on, after this configuration and world, in a run that posts these strings
 abbrev pub turn_of : Setup → List (List ℕ) → Configuration → World → Passed → Turn
-turn_of s strings g w p = turn_by g p (steps_of s strings g w p.world p.event p.draft)
+turn_of s strings g w p = turn_by g p (steps_of s strings g w p.world p.event p.pending)
 
 -- a turn, and those from what it left
 abbrev pub onto_turn : Turn → (Configuration → World → List Turn) → List Turn

@@ -3,7 +3,7 @@ use Rattle.std.specs.Prelude.{◌≡◌, ℕ, ◌+◌, ◌≤◌, List, [], ◌�
 use Rattle.spec_run.specs.declared.outcome.Outcome.{Outcome}
 use Rattle.spec_run.specs.declared.outcome.Outcome.TheVariants as outcomes
 use Rattle.spec_run.specs.World.{Output, World}
-use Rattle.spec_run.specs.Draft.{Answer, Went, Halted}
+use Rattle.spec_run.specs.Pending.{Answer, Went, Halted}
 
 -- the values of the live ones of these outputs, added up
 abbrev pub total_live : List Output → ℕ

@@ -1,4 +1,5 @@
-//! What a run is: its header, its events, what they come to, and what is kept of them.
+//! The definition of runs: headers, events and their refusals, the world that they change, the steps that correspond to
+//! them, and the statements of what holds of every run.
 #![tactic(auto)]
 
 pub mod event;

@@ -1,3 +1,3 @@
 pub mod PathLemmas
 pub mod StandLemmas
-pub mod Worked
+pub mod Vectors

@@ -10,12 +10,14 @@ last_step : (o : Option Subterm) → option_and_then (λ q. subterm_from q []) o
 last_step None = refl
 last_step (Some q) = refl
 
-chained : {X Y Z : Type 0} (f : X → Option Z) (h : X → Option Y) (g : Y → Option Z) → ((q : X) → f q ≡ option_and_then g (h q)) → (o : Option X) → option_and_then f o ≡ option_and_then g (option_and_then h o)
+chained : {X Y Z : Type 0} (f : X → Option Z) (h : X → Option Y) (g : Y → Option Z) → ((q : X) → f q ≡ option_and_then g (h q))
+    → (o : Option X) → option_and_then f o ≡ option_and_then g (option_and_then h o)
 chained f h g e None = refl
 chained f h g e (Some q) = e q
 
 -- one more step at the end
-pub subterm_from-step : (p : Subterm) (xs : List PathStep) (s : PathStep) → subterm_from p (xs ++ s ∷ []) ≡ option_and_then (λ q. next_subterm q s) (subterm_from p xs)
+pub subterm_from-step : (p : Subterm) (xs : List PathStep) (s : PathStep) → subterm_from p (xs ++ s ∷ [])
+    ≡ option_and_then (λ q. next_subterm q s) (subterm_from p xs)
 subterm_from-step p [] s = last_step (next_subterm p s)
 subterm_from-step p (x ∷ xs) s =
     chained (λ q. subterm_from q (xs ++ s ∷ [])) (λ q. subterm_from q xs) (λ q. next_subterm q s) (λ q. subterm_from-step q xs s) (next_subterm p x)

@@ -17,7 +17,13 @@ module _ (ds : List (List ℕ × Holding)) (fee : ℕ) where
   mutual
     pub branches_funded-stops : (q : List PathStep) (v : ℤ) (i : ℕ) (c : Contract) → map stop_of (branches_funded ds fee q v i c) ≡ branches_from q i c
     branches_funded-stops q v i no_branch = refl
-    branches_funded-stops q v i (branch b bs) = rw (map-append stop_of (funded_under ds fee (q ++ To i ∷ []) v b) (branches_funded ds fee q v (i + 1) bs), funded_under-stops (q ++ To i ∷ []) v b, branches_funded-stops q v (i + 1) bs)
+    branches_funded-stops q v i (branch b bs) =
+        rw (
+          map-append stop_of (funded_under ds fee (q ++ To i ∷ []) v b) (branches_funded ds fee q v (i + 1) bs),
+          funded_under-stops
+              (q ++ To i ∷ []) v b,
+          branches_funded-stops q v (i + 1) bs,
+        )
 
     pub funded_under-stops : (p : List PathStep) (v : ℤ) (b : Guarded) → map stop_of (funded_under ds fee p v b) ≡ under p b
     funded_under-stops p v (auth party body) = funded_under-stops p v body
@@ -28,7 +34,13 @@ module _ (ds : List (List ℕ × Holding)) (fee : ℕ) where
 
     pub parts_funded-stops : (p : List PathStep) (k : ℕ) (ps : Parts) → map stop_of (parts_funded ds fee p k ps) ≡ parts_from p k ps
     parts_funded-stops p k no_part = refl
-    parts_funded-stops p k (part w c ps) = rw (map-append stop_of (branches_funded ds fee (p ++ Into k ∷ []) (pos w) 0 c) (parts_funded ds fee p (k + 1) ps), branches_funded-stops (p ++ Into k ∷ []) (pos w) 0 c, parts_funded-stops p (k + 1) ps)
+    parts_funded-stops p k (part w c ps) =
+        rw (
+          map-append stop_of (branches_funded ds fee (p ++ Into k ∷ []) (pos w) 0 c)
+              (parts_funded ds fee p (k + 1) ps),
+          branches_funded-stops (p ++ Into k ∷ []) (pos w) 0 c,
+          parts_funded-stops p (k + 1) ps,
+        )
 
 -- the stands of an advert without their balances
 pub all_funded-stops : (a : Advert) → map stop_of (all_funded a) ≡ in_order a.root

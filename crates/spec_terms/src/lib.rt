@@ -1,4 +1,5 @@
-//! The terms of contracts and what is meant by them: the plain types that contracts of code see, and the definitions.
+//! The definition of contracts: adverts, branches, predicates, positions and paths, balances, and the faults and limits
+//! of the check.
 #![tactic(auto)]
 
 pub mod limit;

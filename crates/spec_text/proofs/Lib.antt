@@ -1,3 +1,3 @@
-pub mod Worked
-pub mod WorkedRuns
-pub mod WorkedDraws
+pub mod Vectors
+pub mod RunVectors
+pub mod DrawVectors

@@ -39,18 +39,18 @@ draw_bytes (suc n) state = onto_drawn (drawn (next_state state) % 256) (draw_byt
 -- ---- secrets
 
 -- a secret: its length in the contract, and its bytes
-abbrev pub Made : Type 0
-Made = ℕ × List ℕ
+abbrev pub Generated : Type 0
+Generated = ℕ × List ℕ
 
-abbrev pub made_of : ℕ → ℕ → Drawn (List ℕ) → Drawn Made
+abbrev pub made_of : ℕ → ℕ → Drawn (List ℕ) → Drawn Generated
 made_of j length bytes = ((length, j ∷ bytes.0), bytes.1)
 
 -- secret j: the byte j, and 15 bytes more than its length
-abbrev pub draw_secret : ℕ → ℕ → Drawn Made
+abbrev pub draw_secret : ℕ → ℕ → Drawn Generated
 draw_secret j state = made_of j (drawn (next_state state) % 17) (draw_bytes (15 + drawn (next_state state) % 17) (next_state state))
 
 -- so many secrets from number j on
-abbrev pub draw_secrets : ℕ → ℕ → ℕ → Drawn (List Made)
+abbrev pub draw_secrets : ℕ → ℕ → ℕ → Drawn (List Generated)
 draw_secrets zero j state = ([], state)
 draw_secrets (suc n) j state = onto_drawn ((draw_secret j state).0) (draw_secrets n (j + 1) ((draw_secret j state).1))
 
@@ -75,17 +75,17 @@ stage j length next =
     (branch (after (10 * j) (withdraw party_b)) no_branch)
 
 -- the stages from number j on; at last A withdraws
-abbrev pub stages : ℕ → List Made → Contract
+abbrev pub stages : ℕ → List Generated → Contract
 stages j [] = branch (withdraw party_a) no_branch
 stages j (m ∷ ms) = stage j (m.0) (stages (j + 1) ms)
 
 -- the entries of the secrets from number j on
-abbrev pub secret_entries : ℕ → List Made → List Pre
+abbrev pub secret_entries : ℕ → List Generated → List Pre
 secret_entries j [] = []
 secret_entries j (m ∷ ms) = Secret party_a (secret_name j) ∷ secret_entries (j + 1) ms
 
-abbrev pub made_advert : List Made → Advert
-made_advert ms = record {
+abbrev pub generated_advert : List Generated → Advert
+generated_advert ms = record {
   pre = Persistent party_a 1000000 (codes "x") ∷ Persistent party_b 0 (codes "y") ∷ secret_entries 1 ms;
   fee = 0;
   root = stages 1 ms;
@@ -93,15 +93,15 @@ made_advert ms = record {
 
 -- ---- the header
 
-abbrev pub held : ℕ → Made → HeldSecret
+abbrev pub held : ℕ → Generated → HeldSecret
 held j m = record { party = party_a; name = secret_name j; bytes = m.1 }
 
-abbrev pub held_from : ℕ → List Made → List HeldSecret
+abbrev pub held_from : ℕ → List Generated → List HeldSecret
 held_from j [] = []
 held_from j (m ∷ ms) = held j m ∷ held_from (j + 1) ms
 
-abbrev pub made_header : List Made → Header
-made_header ms = record {
+abbrev pub generated_header : List Generated → Header
+generated_header ms = record {
   parties = party_a ∷ party_b ∷ [];
   honest = party_a ∷ party_b ∷ [];
   secrets = held_from 1 ms;
@@ -140,7 +140,7 @@ gift_from (o ∷ rest) g = (gift (o.0) (o.1) ((draw_below (o.1 + 1) g.state).0) 
 
 -- events before those that are still made
 abbrev pub before : {G : Type 0} → List Event → List Event × G → List Event × G
-before front later = (front ++ later.0, later.1)
+before prefix later = (prefix ++ later.0, later.1)
 
 -- so many gifts
 abbrev pub gifts : ℕ → Going → List Event × Going
@@ -179,20 +179,20 @@ begun state = record { state = state; next = 4; queue = (2, 1000000000) ∷ []; 
 
 -- ---- all of it
 
-abbrev pub made_events : ℕ → ℕ → List Event
-made_events size state = first_events ++ all_stages size 1 (begun state)
+abbrev pub generated_events : ℕ → ℕ → List Event
+generated_events size state = first_events ++ all_stages size 1 (begun state)
 
 -- the secrets of a number and a size, with the state after them
-abbrev pub made_secrets : ℕ → ℕ → Drawn (List Made)
-made_secrets number size = draw_secrets size 1 number
+abbrev pub generated_secrets : ℕ → ℕ → Drawn (List Generated)
+generated_secrets number size = draw_secrets size 1 number
 
-abbrev pub made_run_of : ℕ → Drawn (List Made) → Run
-made_run_of size ms = record { header = made_header (ms.0); events = made_events size (ms.1) }
+abbrev pub made_run_of : ℕ → Drawn (List Generated) → Run
+made_run_of size ms = record { header = generated_header (ms.0); events = generated_events size (ms.1) }
 
 -- the contract of a number and a size
-abbrev pub made_contract : ℕ → ℕ → Advert
-made_contract number size = made_advert ((made_secrets number size).0)
+abbrev pub generated_contract : ℕ → ℕ → Advert
+generated_contract number size = generated_advert ((generated_secrets number size).0)
 
 -- the run of a number and a size
-abbrev pub made_run : ℕ → ℕ → Run
-made_run number size = made_run_of size (made_secrets number size)
+abbrev pub generated_run : ℕ → ℕ → Run
+generated_run number size = made_run_of size (generated_secrets number size)

@@ -68,24 +68,24 @@ symbol_in (row ∷ rows) b = if b == row.0 then Some (row.1) else symbol_in rows
 -- ---- the token at the front
 
 -- a kind, and how many bytes it has after its first
-abbrev pub Front : Type 0
-Front = Kind × ℕ
+abbrev pub Prefix : Type 0
+Prefix = Kind × ℕ
 
--- the front of a letter and what follows it: a word
-unfoldable pub word_front : ℕ → List ℕ → Front
-word_front b bytes = let rest = take_while is_name_byte bytes in (word_kind (b ∷ rest), length rest)
+-- the prefix of a letter and what follows it: a word
+unfoldable pub word_prefix : ℕ → List ℕ → Prefix
+word_prefix b bytes = let rest = take_while is_name_byte bytes in (word_kind (b ∷ rest), length rest)
 
--- the front of a digit that isn't 0 and what follows it: a number
-unfoldable pub number_front : ℕ → List ℕ → Front
-number_front b bytes = let rest = take_while is_digit bytes in (number_kind (b ∷ rest), length rest)
+-- the prefix of a digit that isn't 0 and what follows it: a number
+unfoldable pub number_prefix : ℕ → List ℕ → Prefix
+number_prefix b bytes = let rest = take_while is_digit bytes in (number_kind (b ∷ rest), length rest)
 
-abbrev pub symbol_or_none : Option Symbol → Option Front
+abbrev pub symbol_or_none : Option Symbol → Option Prefix
 symbol_or_none None = None
 symbol_or_none (Some s) = Some (kind.Symbol s, 0)
 
--- the front of another byte: a symbol of one byte
-unfoldable pub symbol_front : ℕ → Option Front
-symbol_front b = symbol_or_none (symbol_in symbols b)
+-- the prefix of another byte: a symbol of one byte
+unfoldable pub symbol_prefix : ℕ → Option Prefix
+symbol_prefix b = symbol_or_none (symbol_in symbols b)
 
 -- whether the bytes begin with `>`
 abbrev pub begins_greater : List ℕ → Bool
@@ -94,13 +94,13 @@ begins_greater (b ∷ bytes) = b == 62
 
 -- The longest token at the front of a byte and what follows it: its kind, and how many bytes it has after
 -- the first; none where the byte begins no token.
-abbrev pub front : ℕ → List ℕ → Option Front
-front b bytes =
-    if is_letter b then Some (word_front b bytes)
+abbrev pub prefix : ℕ → List ℕ → Option Prefix
+prefix b bytes =
+    if is_letter b then Some (word_prefix b bytes)
     else if b == 48 then Some (kind.Number 0, 0)
-    else if is_digit b then Some (number_front b bytes)
+    else if is_digit b then Some (number_prefix b bytes)
     else if (b == 45) && begins_greater bytes then Some (kind.Symbol symbol.Arrow, 1)
-    else symbol_front b
+    else symbol_prefix b
 
 -- ---- all tokens
 
@@ -113,7 +113,7 @@ with_token token (Ok tokens) = Ok (token ∷ tokens)
 with_token token (Err place) = Err place
 
 -- the token of this kind and length from this place on
-abbrev pub token_at : ℕ → Front → Token
+abbrev pub token_at : ℕ → Prefix → Token
 token_at place f = record { kind = f.0; start = place; end = place + f.1 + 1 }
 
 -- what the next byte is
@@ -122,17 +122,17 @@ pub data Look : Type 0 where
   inside : ℕ → Look
   blank : Look
   -- it begins a token
-  start : Front → Look
+  start : Prefix → Look
   no_token : Look
 
-abbrev pub front_look : Option Front → Look
-front_look (Some f) = start f
-front_look None = no_token
+abbrev pub prefix_look : Option Prefix → Look
+prefix_look (Some f) = start f
+prefix_look None = no_token
 
 -- what the next byte is, where so many bytes still belong to the token before it
 abbrev pub look : ℕ → ℕ → List ℕ → Look
 look (suc left) b bytes = inside left
-look zero b bytes = if is_blank b then blank else front_look (front b bytes)
+look zero b bytes = if is_blank b then blank else prefix_look (prefix b bytes)
 
 -- how many bytes after this one belong to the same token
 abbrev pub left_of : Look → ℕ

@@ -96,13 +96,13 @@ reason_text (reason.Ledger r) = refusal_text r
 -- ---- outcomes
 
 -- ` #n v` for each new output
-abbrev pub made_text : List (ℕ × ℕ) → List ℕ
-made_text ms = flat_map (λ m. codes " " ++ (output_text m.0 ++ (codes " " ++ decimal m.1))) ms
+abbrev pub generated_text : List (ℕ × ℕ) → List ℕ
+generated_text ms = flat_map (λ m. codes " " ++ (output_text m.0 ++ (codes " " ++ decimal m.1))) ms
 
 -- `accepted spends #a #b makes #c v #d w lock L`
 abbrev pub accepted_text : List ℕ → List (ℕ × ℕ) → ℕ → List ℕ
 accepted_text spent made lock =
-    codes "accepted spends" ++ (outputs_text spent ++ (codes " makes" ++ (made_text made ++ (codes " lock " ++ decimal lock))))
+    codes "accepted spends" ++ (outputs_text spent ++ (codes " makes" ++ (generated_text made ++ (codes " lock " ++ decimal lock))))
 
 -- the line of an outcome, without its end
 abbrev pub outcome_text : Outcome → List ℕ

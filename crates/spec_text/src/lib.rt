@@ -1,5 +1,5 @@
-//! The texts of the project and what is meant by them: tokens and grammar of contract text, lines of a run
-//! file, and every text that is printed.
+//! The definition of all texts: tokens and grammar of contracts, lines of run files, and what is printed. The refusals
+//! of files are defined here too.
 #![tactic(auto)]
 
 pub mod entry;

@@ -4,8 +4,8 @@
 --  1  a contract file is refused
 --  2  the words are no command
 --  3  a read failed; nothing is written
---  4  the write failed; a front of the text is written
---  5  memory was wanting; nothing is written
+--  4  the write failed; a prefix of the text is written
+--  5  memory ran out; nothing is written
 --  6  the run file is refused
 --  7  an event guesses a secret, and no collision came before or with it
 --  8  the opening or an event collides, or what is judged or tried after the run

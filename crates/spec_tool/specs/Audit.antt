@@ -79,7 +79,7 @@ listed_in s w k = listed_by s (compiled_instance s w k)
 
 -- the names of all of these that the transaction is without its witnesses, in their order
 abbrev pub names_among : List Listed → Tx → List Which
-names_among all tx = map (λ (l : Listed). l.which) (filter (λ (l : Listed). same_bare tx (tx_of l.draft)) all)
+names_among all tx = map (λ (l : Listed). l.which) (filter (λ (l : Listed). same_bare tx (tx_of l.pending)) all)
 
 -- what an accepted transaction of this kind is
 abbrev pub now_by : Kind → Now
@@ -148,7 +148,7 @@ missing_inputs hash book which tx k (spent ∷ rest) (labels ∷ others) =
 
 -- by transaction, input and then participant or owner in order
 abbrev pub missing_of : (List ℕ → List ℕ) → List Pair → List Listed → List Missing
-missing_of hash book all = flat_map (λ (l : Listed). missing_inputs hash book l.which (tx_of l.draft) 0 l.draft.spends l.signers) all
+missing_of hash book all = flat_map (λ (l : Listed). missing_inputs hash book l.which (tx_of l.pending) 0 l.pending.spends l.signers) all
 
 -- ---- the report
 

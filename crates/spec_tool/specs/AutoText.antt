@@ -6,7 +6,7 @@ use Rattle.spec_run.specs.declared.event.Event.{Event}
 use Rattle.spec_run.specs.declared.event.Run.{Run}
 use Rattle.spec_run.specs.declared.header.Header.{Header}
 use Rattle.spec_run.specs.Setup.{Setup}
-use Rattle.spec_run.specs.Draft.{Halt, Collided, Guessed}
+use Rattle.spec_run.specs.Pending.{Halt, Collided, Guessed}
 use Rattle.spec_run.specs.Translation.{last_world}
 use Rattle.spec_text.specs.Limits.{most_run_bytes, most_events}
 use Rattle.spec_text.specs.RunText.{newline, run_text}

@@ -71,7 +71,7 @@ last_group a b c d =
     else whole_group a b c d
 
 abbrev pub joined : Option (List ℕ) → Option (List ℕ) → Option (List ℕ)
-joined front later = front >>= λ bytes. later >>= λ more. Some (bytes ++ more)
+joined prefix later = prefix >>= λ bytes. later >>= λ more. Some (bytes ++ more)
 
 -- the bytes that a text is of
 unfoldable pub base64_bytes : List ℕ → Option (List ℕ)

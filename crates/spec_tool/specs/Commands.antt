@@ -13,7 +13,7 @@ use Rattle.spec_text.specs.Limits.{most_text_bytes, most_run_bytes}
 use Rattle.spec_text.specs.RunText.{newline}
 use Rattle.spec_text.specs.Canonical.{advert_text}
 use Rattle.spec_text.specs.Refusals.{Judged, contract_of, contract_refused_line, run_of, run_refused_line}
-use Rattle.spec_text.specs.Generator.{made_contract, made_run}
+use Rattle.spec_text.specs.Generator.{generated_contract, generated_run}
 use Rattle.spec_text.specs.PlayText.{Ending, whole, guessed, collided}
 use Rattle.spec_text.specs.Played.{ending, play_text}
 use Rattle.spec_text.specs.PlanText.{plan_text, make_text}
@@ -47,7 +47,7 @@ pub data Command : Type 0 where
   -- goes on with a run by the rules of a strategy
   auto : (run : List ℕ) → (contract : List ℕ) → (strategy : List ℕ) → Command
 
--- the greatest size of a made run
+-- the greatest size of a generated run
 abbrev pub most_size : ℕ
 most_size = 30
 
@@ -219,7 +219,7 @@ play_answer hash run contracts = with_run play_text hash (run_of run) contracts
 abbrev pub plan_answer : (List ℕ → List ℕ) → List ℕ → List ℕ → Printed
 plan_answer hash run contract = with_run plan_text hash (run_of run) (contract ∷ [])
 
--- what `make` answers: the made run is played with the made contract
+-- what `make` answers: the generated run is played with the generated contract
 abbrev pub make_answer : (List ℕ → List ℕ) → ℕ → ℕ → Printed
-make_answer hash number size = run_answer make_text (setup_of hash (made_run number size) (made_contract number size ∷ []))
-    ((made_run number size).events)
+make_answer hash number size = run_answer make_text (setup_of hash (generated_run number size) (generated_contract number size ∷ []))
+    ((generated_run number size).events)

@@ -9,7 +9,7 @@ use Rattle.spec_run.specs.declared.event.Event.{Event}
 use Rattle.spec_run.specs.declared.event.Run.{Run}
 use Rattle.spec_run.specs.Setup.{Setup}
 use Rattle.spec_run.specs.World.{World}
-use Rattle.spec_run.specs.Draft.{Collided, Guessed}
+use Rattle.spec_run.specs.Pending.{Collided, Guessed}
 use Rattle.spec_run.specs.Agreement.{Agree}
 use Rattle.spec_run.specs.Conditions.{HashesBytes}
 use Rattle.spec_run.specs.Event.{opening_collision}

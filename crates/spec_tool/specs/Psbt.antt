@@ -21,7 +21,7 @@ pub record Psbt : Type 0 where
   pub tx : Tx
   pub inputs : List PsbtInput
 
--- whether a byte string comes before another: byte by byte, a front before the whole
+-- whether a byte string comes before another: byte by byte, a prefix before the whole
 abbrev pub is_before : List ℕ → List ℕ → Bool
 is_before [] [] = false
 is_before [] (y ∷ ys) = true

@@ -20,7 +20,7 @@ abbrev pub taken : {A : Type 0} → Result (A × List ℕ) ℕ → Option (A × 
 taken (Ok p) = Some p
 taken (Err left) = None
 
--- the bytes behind this front
+-- the bytes behind this prefix
 abbrev pub behind : List ℕ → List ℕ → Option (List ℕ)
 behind [] bytes = Some bytes
 behind (x ∷ xs) [] = None

@@ -44,23 +44,23 @@ signatures_there hash book (label ∷ rest) digest =
 
 -- an input that spends this and is to be signed by these, with the signatures that are there
 abbrev pub signed_input : (List ℕ → List ℕ) → List Pair → Unsigned → Spent → List Label → PsbtInput
-signed_input hash book draft spent signers = record {
+signed_input hash book pending spent signers = record {
   spent = Some (pays hash spent.script spent.value);
-  partial = signatures_there hash book signers (digest_of_spent hash (tx_of draft) spent);
+  partial = signatures_there hash book signers (digest_of_spent hash (tx_of pending) spent);
   all = true;
   script = Some spent.script;
   witness = None;
 }
 
 abbrev pub signed_inputs : (List ℕ → List ℕ) → List Pair → Unsigned → List Spent → List (List Label) → List PsbtInput
-signed_inputs hash book draft [] signers = []
-signed_inputs hash book draft (spent ∷ rest) [] = []
-signed_inputs hash book draft (spent ∷ rest) (labels ∷ others) = signed_input hash book draft spent labels
-    ∷ signed_inputs hash book draft rest others
+signed_inputs hash book pending [] signers = []
+signed_inputs hash book pending (spent ∷ rest) [] = []
+signed_inputs hash book pending (spent ∷ rest) (labels ∷ others) = signed_input hash book pending spent labels
+    ∷ signed_inputs hash book pending rest others
 
 -- a compiled transaction with the signatures that the book has for it
 abbrev pub listed_psbt : (List ℕ → List ℕ) → List Pair → Listed → Psbt
-listed_psbt hash book l = record { tx = tx_of l.draft; inputs = signed_inputs hash book l.draft l.draft.spends l.signers }
+listed_psbt hash book l = record { tx = tx_of l.pending; inputs = signed_inputs hash book l.pending l.pending.spends l.signers }
 
 -- ---- base64
 

@@ -12,7 +12,7 @@ use Rattle.spec_tool.specs.Reads.{reads_in}
 use Rattle.spec_tool.specs.Commands.{Command, check, play, plan, psbt_of, weigh, files_of, Printed, check_answer}
 use Rattle.spec_tool.specs.Commands.{play_answer, plan_answer, contracts_from, both_judged, setup_of, ending_status}
 use Rattle.spec_run.specs.Translation.{last_world}
-use Rattle.spec_text.specs.Generator.{made_contract, made_run}
+use Rattle.spec_text.specs.Generator.{generated_contract, generated_run}
 use Rattle.spec_tool.specs.Sizes.{most_psbt_bytes, most_audit_bytes}
 use Rattle.spec_tool.specs.Psbt.{Psbt}
 use Rattle.spec_tool.specs.PsbtBytes.{combined}
@@ -87,7 +87,7 @@ pub record CompletenessTheorem : Type 0 where
       → ending_status (ending (setup_of hash r adverts) r.events) ≡ 0
       → (answer_there hash there (weigh run contract)).status ≡ 0
   pub make_ends : (hash : List ℕ → List ℕ) (there : Files) (number size : ℕ)
-      → ending_status (ending (setup_of hash (made_run number size) (made_contract number size ∷ [])) ((made_run number size).events)) ≡ 0
+      → ending_status (ending (setup_of hash (generated_run number size) (generated_contract number size ∷ [])) ((generated_run number size).events)) ≡ 0
       → (answer_there hash there (make number size)).status ≡ 0
   pub shown_ends : (hash : List ℕ → List ℕ) (there : Files) (file text : List ℕ) (p : Psbt)
       → look_up file there ≡ Some text → nat_le (length text) most_psbt_bytes ≡ true → psbt_in (Some text) ≡ Ok p

@@ -7,7 +7,7 @@ use Rattle.spec_run.specs.declared.event.Event.{Event}
 use Rattle.spec_run.specs.declared.event.Event.TheVariants as events
 use Rattle.spec_run.specs.Setup.{Setup, contract_at}
 use Rattle.spec_run.specs.World.{ContractPosition, Output, World, live_position}
-use Rattle.spec_run.specs.Draft.{Halt, Answer, Went, Halted}
+use Rattle.spec_run.specs.Pending.{Halt, Answer, Went, Halted}
 use Rattle.spec_run.specs.Event.{event}
 use Rattle.spec_run.specs.Ledger.{branch_in}
 use Rattle.spec_run.specs.Values.{is_refused}

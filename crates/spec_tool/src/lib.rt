@@ -1,4 +1,5 @@
-//! The program: its commands, and what each answers to words and to what the reads of its files answered.
+//! The definition of the program: which words are commands, which files they read, and what status and text each
+//! answers.
 #![tactic(auto)]
 
 pub mod finding;

@@ -72,7 +72,7 @@ fn twins_collide(rt: HostRuntime) -> Result<(), Fail> {
     Ok(())
 }
 
-/// A search from the front would compare some hundred thousand million pairs.
+/// A search from the prefix would compare some hundred thousand million pairs.
 #[test]
 fn half_a_million_messages_take_no_search(rt: HostRuntime) -> Result<(), Fail> {
     let mut trail = Trail::new(rt.alloc(), Sha);

@@ -23,7 +23,7 @@ fn key_of_a_branch(rt: HostRuntime) -> Result<(), Fail> {
     Ok(())
 }
 
-/// A search from the front would compare some hundred thousand million pairs.
+/// A search from the prefix would compare some hundred thousand million pairs.
 #[test]
 fn half_a_million_pairs_take_no_search(rt: HostRuntime) -> Result<(), Fail> {
     let mut book = Book::new(rt.alloc());

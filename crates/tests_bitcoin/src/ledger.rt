@@ -1,4 +1,4 @@
-//! A ledger of half a million outputs, of which a few are spent. A search from the front would compare some hundred
+//! A ledger of half a million outputs, of which a few are spent. A search from the prefix would compare some hundred
 //! thousand million places.
 
 use bm_book::Book;

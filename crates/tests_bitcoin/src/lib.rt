@@ -1,5 +1,5 @@
-//! Tests of the crates on hashes, transactions, scripts, keys and the ledger, of what no contract says: published
-//! values, that calls succeed where memory is ample, and that none of them searches from the front.
+//! Tests of the crates for hashes, transactions, scripts, keys and the ledger, of what no contract says: published
+//! values, that calls succeed if memory suffices, and that no look-up searches from the beginning.
 #![tactic(auto)]
 
 #[cfg(test)]

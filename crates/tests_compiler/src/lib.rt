@@ -1,5 +1,5 @@
-//! Tests of the compiler and of the crates that read what it makes, of what no contract says: worked values, values that two
-//! other programs agree on, and that calls succeed where memory is ample.
+//! Tests of the compiler and the crates around it, of what no contract says: test vectors on which two other programs
+//! agree, and that calls succeed if memory suffices.
 #![tactic(auto)]
 
 #[cfg(test)]

@@ -40,7 +40,7 @@ fn size_of_text(alloc: Global, text: &[u8]) -> Option<(usize, usize)> {
 }
 
 #[test]
-fn scripts_are_as_large_as_worked(rt: HostRuntime) {
+fn scripts_are_as_large_as_calculated(rt: HostRuntime) {
     assert!(rt; size_of_text(rt.alloc(), REVEALED) == Some((83, 11)));
     assert!(rt; size_of_text(rt.alloc(), TIMED) == Some((191, 17)));
 }

@@ -5,39 +5,39 @@ use bm_plan::{Weight, weigh};
 use std::alloc::Global;
 
 // Whether these are the least and the greatest of the weight and of the total.
-fn is_weight(found: &(Weight, Weight), wanted: &[u64; 4]) -> bool {
+fn is_weight(found: &(Weight, Weight), required: &[u64; 4]) -> bool {
     let (own, total) = found;
-    [own.least, own.most, total.least, total.most] == *wanted
+    [own.least, own.most, total.least, total.most] == *required
 }
 
-// Whether each entry is as wanted.
-fn are_weights(found: &[(Weight, Weight)], wanted: &[[u64; 4]]) -> bool {
-    for (entry, weights) in found.iter().zip(wanted) {
+// Whether each entry is as expected.
+fn are_weights(found: &[(Weight, Weight)], required: &[[u64; 4]]) -> bool {
+    for (entry, weights) in found.iter().zip(required) {
         if !is_weight(entry, weights) {
             return false;
         }
     }
-    found.len() == wanted.len()
+    found.len() == required.len()
 }
 
-// Whether the transactions of a contract weigh as wanted.
-fn weigh_as(alloc: Global, made: &Example, wanted: &[[u64; 4]]) -> bool {
+// Whether the transactions of a contract weigh as expected.
+fn weigh_as(alloc: Global, made: &Example, required: &[[u64; 4]]) -> bool {
     match weigh(alloc, &made.checked, &made.whole) {
-        Ok(found) => are_weights(&found, wanted),
+        Ok(found) => are_weights(&found, required),
         Err(_) => false,
     }
 }
 
 // The same, of the contract's text.
-fn weighs(alloc: Global, text: &[u8], wanted: &[[u64; 4]]) -> bool {
+fn weighs(alloc: Global, text: &[u8], required: &[[u64; 4]]) -> bool {
     match made(alloc, text) {
-        Some(made) => weigh_as(alloc, &made, wanted),
+        Some(made) => weigh_as(alloc, &made, required),
         None => false,
     }
 }
 
 #[test]
-fn transactions_weigh_as_worked(rt: HostRuntime) {
+fn transactions_weigh_as_calculated(rt: HostRuntime) {
     let plain = [[482, 482, 482, 482], [482, 482, 964, 964]];
     assert!(rt; weighs(rt.alloc(), b"{A:! 10 @ x} withdraw A", &plain));
     let revealed = [

@@ -34,7 +34,7 @@ give B #5 -> B 264077832 B 84897685
 ";
 
 #[test]
-fn a_small_run_begins_as_worked_apart(rt: HostRuntime) -> Result<(), Fail> {
+fn a_small_run_begins_as_calculated_apart(rt: HostRuntime) -> Result<(), Fail> {
     let (contract, run) = make(rt.alloc(), 7, 1)?;
     assert!(rt; contract.as_slice() == CONTRACT);
     assert!(rt; run.as_slice().starts_with(BEGINNING));

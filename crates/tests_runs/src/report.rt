@@ -204,12 +204,12 @@ fn text(alloc: Global, party: Name, row: usize) -> Result<Option<Vec<u8>>, OutOf
 }
 
 #[test]
-fn lines_are_those_worked_by_hand(rt: HostRuntime) -> Result<(), Fail> {
+fn lines_are_those_written_by_hand(rt: HostRuntime) -> Result<(), Fail> {
     let alloc = rt.alloc();
     let party = Name::new(b"A").ok_or("no name")?;
-    for (row, wanted) in TEXTS.iter().enumerate() {
+    for (row, required) in TEXTS.iter().enumerate() {
         let text = text(alloc, party, row)?.ok_or("none")?;
-        assert!(rt; text.as_slice() == wanted.as_bytes(), "{wanted}");
+        assert!(rt; text.as_slice() == required.as_bytes(), "{required}");
     }
     Ok(())
 }

@@ -1,6 +1,6 @@
-//! Tests of the whole program over files and a sink in memory, of what no contract says: that calls succeed where memory is
-//! ample, and worked texts where a read or a write fails or two messages have one digest. All other runs are played by the built
-//! program, as .ci/run says.
+//! Tests of the whole program over files and an output in memory, of what no contract says: that calls succeed if
+//! memory suffices, and test vectors where a read or write fails or two messages have one digest. All other runs are
+//! played by .ci/run.
 #![tactic(auto)]
 
 #[cfg(test)]

@@ -43,9 +43,13 @@ fn is_stop(halt: &Halt, message: &[u8], collides: bool) -> bool {
     }
 }
 
-// Whether the event of the wanted number is stopped so, or none.
-fn is_stopped(stop: &Option<(usize, Halt)>, message: &[u8], wanted: Option<(usize, bool)>) -> bool {
-    match (stop, wanted) {
+// Whether the event of the needed number is stopped so, or none.
+fn is_stopped(
+    stop: &Option<(usize, Halt)>,
+    message: &[u8],
+    required: Option<(usize, bool)>,
+) -> bool {
+    match (stop, required) {
         (None, None) => true,
         (Some((number, halt)), Some((place, collides))) => {
             *number == place && is_stop(halt, message, collides)
@@ -58,10 +62,10 @@ fn is_stopped(stop: &Option<(usize, Halt)>, message: &[u8], wanted: Option<(usiz
 fn is_stopped_run<H: Hash32 + Drop>(
     played: &Played<H>,
     message: &[u8],
-    wanted: Option<(usize, bool)>,
+    required: Option<(usize, bool)>,
 ) -> bool {
     match played {
-        Ok((_, stop)) => is_stopped(stop, message, wanted),
+        Ok((_, stop)) => is_stopped(stop, message, required),
         Err(_) => false,
     }
 }
@@ -75,12 +79,12 @@ fn twin(alloc: Global, message: &[u8]) -> Result<Twin, OutOfMemory> {
 }
 
 // Whether a run by that hash is stopped so.
-fn stops(alloc: Global, message: &[u8], run: &[u8], wanted: Option<(usize, bool)>) -> bool {
+fn stops(alloc: Global, message: &[u8], run: &[u8], required: Option<(usize, bool)>) -> bool {
     let Ok(hash) = twin(alloc, message) else {
         return false;
     };
     match played(alloc, hash, run, &[]) {
-        Some(played) => is_stopped_run(&played, message, wanted),
+        Some(played) => is_stopped_run(&played, message, required),
         None => false,
     }
 }

@@ -1,5 +1,5 @@
-//! Tests of the crates that play a run, of what no contract says: that calls succeed with ample memory, worked values, and what
-//! is left where an allocation fails. Whole runs are played by the built program, as .ci/run says.
+//! Tests of the crates that play a run, of what no contract says: that calls succeed if memory suffices, test vectors,
+//! and what is left if an allocation fails. Whole runs are played by .ci/run.
 #![tactic(auto)]
 
 #[cfg(test)]

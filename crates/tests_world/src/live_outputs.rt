@@ -17,8 +17,8 @@ fn output_at(ledger: &Ledger, index: usize) -> Option<(u32, u64)> {
 
 fn are_listed(ledger: &Ledger) -> bool {
     let outputs = [Some((2, 30)), Some((3, 50)), Some((4, 10)), None];
-    for (index, wanted) in outputs.iter().enumerate() {
-        if output_at(ledger, index) != *wanted {
+    for (index, required) in outputs.iter().enumerate() {
+        if output_at(ledger, index) != *required {
             return false;
         }
     }

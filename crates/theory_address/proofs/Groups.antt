@@ -105,7 +105,8 @@ byte_2 bytes q small =
     ∙ (λ j. joined (group_by bytes (8 * q + 3) (5 * q + 1) (5 * q + 2) 7 (omega arith) (omega arith) (omega arith) j)
     (group_by bytes (8 * q + 4) (5 * q + 2) (5 * q + 3) 4 (omega arith) (omega arith) (omega arith) j)
     (group_by bytes (8 * q + 5) (5 * q + 3) (5 * q + 4) 1 (omega arith) (omega arith) (omega arith) j) 1)
-    ∙ bits_2 (slice_index bytes (5 * q + 1)) (slice_index bytes (5 * q + 2)) (slice_index bytes (5 * q + 3)) (slice_index bytes (5 * q + 4)) (small (5 * q + 1)) (small (5 * q + 2)) (small (5 * q + 3)) (small (5 * q + 4))
+    ∙ bits_2 (slice_index bytes (5 * q + 1)) (slice_index bytes (5 * q + 2)) (slice_index bytes (5 * q + 3)) (slice_index bytes (5 * q + 4))
+    (small (5 * q + 1)) (small (5 * q + 2)) (small (5 * q + 3)) (small (5 * q + 4))
 
 byte_3 : (bytes : List ℕ) (q : ℕ) → ((k : ℕ) → slice_index bytes k < 256) → byte_at (groups_of bytes) (5 * q + 3) ≡ slice_index bytes (5 * q + 3)
 byte_3 bytes q small =
@@ -113,7 +114,8 @@ byte_3 bytes q small =
     ∙ (λ j. joined (group_by bytes (8 * q + 4) (5 * q + 2) (5 * q + 3) 4 (omega arith) (omega arith) (omega arith) j)
     (group_by bytes (8 * q + 5) (5 * q + 3) (5 * q + 4) 1 (omega arith) (omega arith) (omega arith) j)
     (group_by bytes (8 * q + 6) (5 * q + 3) (5 * q + 4) 6 (omega arith) (omega arith) (omega arith) j) 4)
-    ∙ bits_3 (slice_index bytes (5 * q + 2)) (slice_index bytes (5 * q + 3)) (slice_index bytes (5 * q + 4)) (small (5 * q + 2)) (small (5 * q + 3)) (small (5 * q + 4))
+    ∙ bits_3 (slice_index bytes (5 * q + 2)) (slice_index bytes (5 * q + 3)) (slice_index bytes (5 * q + 4)) (small (5 * q + 2))
+    (small (5 * q + 3)) (small (5 * q + 4))
 
 byte_4 : (bytes : List ℕ) (q : ℕ) → ((k : ℕ) → slice_index bytes k < 256) → byte_at (groups_of bytes) (5 * q + 4) ≡ slice_index bytes (5 * q + 4)
 byte_4 bytes q small =
@@ -121,7 +123,8 @@ byte_4 bytes q small =
     ∙ (λ j. joined (group_by bytes (8 * q + 6) (5 * q + 3) (5 * q + 4) 6 (omega arith) (omega arith) (omega arith) j)
     (group_by bytes (8 * q + 7) (5 * q + 4) (5 * q + 5) 3 (omega arith) (omega arith) (omega arith) j)
     (group_by bytes (8 * q + 8) (5 * q + 5) (5 * q + 6) 0 (omega arith) (omega arith) (omega arith) j) 2)
-    ∙ bits_4 (slice_index bytes (5 * q + 3)) (slice_index bytes (5 * q + 4)) (slice_index bytes (5 * q + 5)) (slice_index bytes (5 * q + 6)) (small (5 * q + 3)) (small (5 * q + 4)) (small (5 * q + 5)) (small (5 * q + 6))
+    ∙ bits_4 (slice_index bytes (5 * q + 3)) (slice_index bytes (5 * q + 4)) (slice_index bytes (5 * q + 5)) (slice_index bytes (5 * q + 6))
+    (small (5 * q + 3)) (small (5 * q + 4)) (small (5 * q + 5)) (small (5 * q + 6))
 
 byte_of : (bytes : List ℕ) (i : ℕ) → ((k : ℕ) → slice_index bytes k < 256) → byte_at (groups_of bytes) i ≡ slice_index bytes i
 byte_of bytes i small = by (i % 5) refl

@@ -1,4 +1,5 @@
-//! What follows of addresses: each theorem is the contract of a function that does nothing.
+//! Theorems on addresses: each script has one, it reads back, and no word is the address of two. Each is the contract
+//! of a function that does nothing.
 #![tactic(auto)]
 
 ghost use Rattle.theory_address.specs.Addresses.{AddressesAreReadBack, EachHasAddress, OneNetwork, OneScript, ReadExactly, ReadIsShort, ReadIsShown};

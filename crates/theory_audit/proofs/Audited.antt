@@ -5,14 +5,14 @@ use Rattle.spec_run.specs.World.{World}
 use Rattle.spec_run.specs.Translation.{last_world}
 use Rattle.spec_text.specs.Lines.{lines_of}
 use Rattle.spec_tool.specs.Audit.{listed_in, findings_from, audit_strings, audit_collision}
-use Rattle.theory_world.specs.KeptApart.{NoClash}
+use Rattle.theory_world.specs.KeptApart.{NoCollision}
 use Rattle.theory_run.proofs.Halting.Halts.{collides, calm_is}
 use Rattle.theory_run.proofs.Worlds.WorldsOfRuns.{worlds_of_runs}
 use Rattle.theory_audit.specs.Audited.{HaltsAs, AuditsFindAll}
 use Rattle.theory_audit.proofs.Found.{all_found}
 use Rattle.theory_audit.proofs.Lacking.{all_absent, all_missing}
 
-halts_as : (s : Setup) (w : World) (text : List ℕ) → NoClash s.hash w.hashed → (o : Option (List ℕ × List ℕ)) → audit_collision s w text ≡ o
+halts_as : (s : Setup) (w : World) (text : List ℕ) → NoCollision s.hash w.hashed → (o : Option (List ℕ × List ℕ)) → audit_collision s w text ≡ o
     → HaltsAs s w text o
 halts_as s w text clear None h = calm_is s.hash w.hashed (audit_strings s w text) clear h
 halts_as s w text clear (Some pair) h = collides s.hash w.hashed (audit_strings s w text) (pair.0) (pair.1) clear h

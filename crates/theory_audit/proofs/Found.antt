@@ -53,7 +53,7 @@ module _ (s : Setup) (w : World) (k : ℕ) where
   which_of l = l.which
 
   abbrev is_it : Tx → Listed → Bool
-  is_it tx l = same_bare tx (tx_of l.draft)
+  is_it tx l = same_bare tx (tx_of l.pending)
 
   named : (tx : Tx) (which : Which) → Contains (names_among all tx) which → IsNamed s w k tx which
   named tx which h =

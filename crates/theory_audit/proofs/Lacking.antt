@@ -189,13 +189,13 @@ module _ (s : Setup) (w : World) (k : ℕ) where
         (lacking_in_order rest others (from + 1))
 
   abbrev of_listed : Listed → List Missing
-  of_listed l = missing_inputs s.hash w.book l.which (tx_of l.draft) 0 l.draft.spends l.signers
+  of_listed l = missing_inputs s.hash w.book l.which (tx_of l.pending) 0 l.pending.spends l.signers
 
   abbrev needed_of : Listed → List Missing
-  needed_of l = needed_from l.which 0 l.draft.spends l.signers
+  needed_of l = needed_from l.which 0 l.pending.spends l.signers
 
   missing_by : (which : Which) (input : ℕ) (label : Label) (l : Listed) → Is_in l all
-      → IsLacking l.which (tx_of l.draft) 0 l.draft.spends l.signers (missed which input label) → IsUnsigned s w k which input label
+      → IsLacking l.which (tx_of l.pending) 0 l.pending.spends l.signers (missed which input label) → IsUnsigned s w k which input label
   missing_by which input label l i r =
       let which' : which ≡ l.which = ap (λ (y : Missing). y.0) r.is in
       let input' : r.input ≡ input = sym (none_more r.input) ∙ sym (ap (λ (y : Missing). y.1) r.is) in
@@ -204,12 +204,12 @@ module _ (s : Setup) (w : World) (k : ℕ) where
         listed = l;
         compiled = subst (λ y. IsCompiled s w k y l) (sym which') (there_compiled s w k l i);
         spent = r.spent;
-        spends = subst (λ n. slice_get l.draft.spends n ≡ Some r.spent) input' r.spends';
+        spends = subst (λ n. slice_get l.pending.spends n ≡ Some r.spent) input' r.spends';
         labels = r.labels;
         signers = subst (λ n. slice_get l.signers n ≡ Some r.labels) input' r.signers';
         signer = contains_from_in r.labels label (subst (λ y. Is_in y r.labels) label' r.signer);
         unsigned =
-            subst (λ y. has_signed w.book (key_of s.hash y) (digest_of_spent s.hash (tx_of l.draft) r.spent) ≡ false) label' r.unsigned;
+            subst (λ y. has_signed w.book (key_of s.hash y) (digest_of_spent s.hash (tx_of l.pending) r.spent) ≡ false) label' r.unsigned;
       }
 
   missing_is : (which : Which) (input : ℕ) (label : Label) → Contains (missing_of s.hash w.book all) (missed which input label)
@@ -218,14 +218,14 @@ module _ (s : Setup) (w : World) (k : ℕ) where
       let m = missed which input label in
       let x = in_flat of_listed all m (in_from_contains (missing_of s.hash w.book all) m h) in
       let l = x.0 in
-      missing_by which input label l x.1 (lacking_is l.which (tx_of l.draft) l.draft.spends l.signers 0 m x.2)
+      missing_by which input label l x.1 (lacking_is l.which (tx_of l.pending) l.pending.spends l.signers 0 m x.2)
 
   is_missing : (which : Which) (input : ℕ) (label : Label) → IsUnsigned s w k which input label
       → Contains (missing_of s.hash w.book all) (missed which input label)
   is_missing which input label u =
       let l = u.listed in
       let c = compiled_there s w k which l u.compiled in
-      let i = is_lacking l.which (tx_of l.draft) l.draft.spends l.signers 0 input u.spent u.labels label u.spends u.signers
+      let i = is_lacking l.which (tx_of l.pending) l.pending.spends l.signers 0 input u.spent u.labels label u.spends u.signers
       (in_from_contains u.labels label u.signer) u.unsigned in
       let here = subst (λ n. Is_in (missed l.which n label) (of_listed l)) (none_more input) i in
       let j = subst (λ x. Is_in (missed x input label) (of_listed l)) c.1 here in
@@ -236,5 +236,5 @@ module _ (s : Setup) (w : World) (k : ℕ) where
   all_missing = record {
     none_added = missing_is;
     none_left_out = is_missing;
-    in_order = order_flat of_listed needed_of (λ l. lacking_in_order l.which (tx_of l.draft) l.draft.spends l.signers 0) all;
+    in_order = order_flat of_listed needed_of (λ l. lacking_in_order l.which (tx_of l.pending) l.pending.spends l.signers 0) all;
   }

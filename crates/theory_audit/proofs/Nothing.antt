@@ -162,7 +162,7 @@ module _ (hash : List ℕ → List ℕ) (book : List Pair) (contract : ℕ) (adv
 
 module _ (hash : List ℕ → List ℕ) (instance : Instance) (book : List Pair) where
   abbrev of_listed : Listed → List Missing
-  of_listed l = missing_inputs hash book l.which (tx_of l.draft) 0 l.draft.spends l.signers
+  of_listed l = missing_inputs hash book l.which (tx_of l.pending) 0 l.pending.spends l.signers
 
   entries_met : (es : List (List PathStep × Unsigned)) → flat_map of_listed (map (λ p. path_listed instance (p.0) (p.1)) es) ≡ []
       → all_met book (flat_map (λ (p : List PathStep × Prepared). path_needs hash instance.contract instance.advert p.0 p.1)

@@ -52,7 +52,7 @@ all_names s w k = map (λ (l : Listed). l.which) (listed_in s w k)
 pub record IsNamed (s : Setup) (w : World) (k : ℕ) (tx : Tx) (which : Which) : Type 0 where
   pub listed : Listed
   pub compiled : IsCompiled s w k which listed
-  pub same : same_bare tx (tx_of listed.draft) ≡ true
+  pub same : same_bare tx (tx_of listed.pending) ≡ true
 
 -- ---- what the ledger says
 
@@ -128,11 +128,11 @@ pub record IsUnsigned (s : Setup) (w : World) (k : ℕ) (which : Which) (input :
   pub listed : Listed
   pub compiled : IsCompiled s w k which listed
   pub spent : Spent
-  pub spends : slice_get listed.draft.spends input ≡ Some spent
+  pub spends : slice_get listed.pending.spends input ≡ Some spent
   pub labels : List Label
   pub signers : slice_get listed.signers input ≡ Some labels
   pub signer : Contains labels label
-  pub unsigned : has_signed w.book (key_of s.hash label) (digest_of_spent s.hash (tx_of listed.draft) spent) ≡ false
+  pub unsigned : has_signed w.book (key_of s.hash label) (digest_of_spent s.hash (tx_of listed.pending) spent) ≡ false
 
 abbrev pub missed : Which → ℕ → Label → Missing
 missed which input label = (which, input, label)
@@ -145,7 +145,7 @@ needed_from which k (spent ∷ rest) (labels ∷ others) = map (missed which k) 
 
 -- all that are needed, by transaction, input, and then participant or owner
 abbrev pub all_needed : Setup → World → ℕ → List Missing
-all_needed s w k = flat_map (λ (l : Listed). needed_from l.which 0 l.draft.spends l.signers) (listed_in s w k)
+all_needed s w k = flat_map (λ (l : Listed). needed_from l.which 0 l.pending.spends l.signers) (listed_in s w k)
 
 pub record AreMissing (s : Setup) (w : World) (k : ℕ) (missing : List Missing) : Type 0 where
   pub none_added : (which : Which) (input : ℕ) (label : Label) → Contains missing (missed which input label)

@@ -1,4 +1,5 @@
-//! What follows of audits: each theorem is the contract of a function that does nothing.
+//! Theorems on audits: findings, absent transactions and missing signatures are exactly those that there are. Each is
+//! the contract of a function that does nothing.
 #![tactic(auto)]
 
 ghost use Rattle.theory_audit.specs.Audited.{AuditsFindAll};

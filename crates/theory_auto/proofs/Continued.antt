@@ -7,17 +7,17 @@ use Rattle.spec_run.specs.declared.event.Event.{Event}
 use Rattle.spec_data.specs.Messages.{collision}
 use Rattle.spec_run.specs.Setup.{Setup}
 use Rattle.spec_run.specs.World.{World}
-use Rattle.spec_run.specs.Draft.{Went, guess, settle, settled, answer}
-use Rattle.spec_run.specs.Event.{draft, event}
+use Rattle.spec_run.specs.Pending.{Went, guess, apply, applied, answer}
+use Rattle.spec_run.specs.Event.{pending, event}
 use Rattle.spec_run.specs.Translation.{last_world, first_halt}
 use Rattle.spec_run.specs.Statements.{IsRun}
 use Rattle.spec_tool.specs.declared.rule.Rule.{Rule}
 use Rattle.spec_tool.specs.Turns.{rule_event, Progress, extended}
-use Rattle.theory_world.specs.KeptApart.{NoClash}
+use Rattle.theory_world.specs.KeptApart.{NoCollision}
 use Rattle.theory_run.proofs.Worlds.WorldsOfRuns.{worlds_of_runs}
 use Rattle.theory_auto.specs.Continued.{AreTaken, IsRefusal, IsRefusedIf, IsIdle, HashedMore, GoesOnBy, StrategiesGoOn}
 use Rattle.theory_run.proofs.Fewer.{Within, collision_within, again_calm}
-use Rattle.theory_run.proofs.Events.Hashless.{carried, draft_same}
+use Rattle.theory_run.proofs.Events.Hashless.{carried, pending_same}
 use Rattle.theory_auto.proofs.HashlessRules.{rule_same}
 use Rattle.theory_auto.proofs.Tries.{Rests, RestsBy, RestsIf}
 use Rattle.theory_auto.proofs.Rounds.{as_many, Ended, EndsBy, rounds_end}
@@ -25,19 +25,19 @@ use Rattle.theory_auto.proofs.Longer.{longer}
 
 -- ---- rules that rest are idle
 
-module _ (s : Setup) (w : World) (hs : List (List ℕ)) (clear : NoClash s.hash hs) (r : Rule) where
+module _ (s : Setup) (w : World) (hs : List (List ℕ)) (clear : NoCollision s.hash hs) (r : Rule) where
   -- in a world with all or with fewer of these messages
   idle_by : (xs : List (List ℕ)) → Within xs hs → (e : Event) → rule_event s w r ≡ Some e → RestsBy s w hs e
       → IsRefusal (event s (record w { hashed = xs }) e)
   idle_by xs within e has rests =
-      let d = draft s w e in
+      let d = pending s w e in
       let calm : collision s.hash xs d.hashes ≡ None =
       collision_within s.hash xs hs d.hashes within (again_calm s.hash hs d.hashes clear rests.heard) in
       let there = record w { hashed = xs } in
-      let is : event s there e ≡ Went (carried xs d) (settled there (carried xs d)) =
-      ap (answer s there) (draft_same s w xs e)
-      ∙ (ap (λ c. settle there (carried xs d) c (guess s w.posted d.posts d.allowed)) calm
-      ∙ ap (settle there (carried xs d) None) rests.unguessed) in
+      let is : event s there e ≡ Went (carried xs d) (applied there (carried xs d)) =
+      ap (answer s there) (pending_same s w xs e)
+      ∙ (ap (λ c. apply there (carried xs d) c (guess s w.posted d.posts d.allowed)) calm
+      ∙ ap (apply there (carried xs d) None) rests.unguessed) in
       subst IsRefusal (sym is) rests.refused
 
   idle_if : (xs : List (List ℕ)) → Within xs hs → (o : Option Event) → rule_event s w r ≡ o → RestsIf s w hs o
@@ -49,15 +49,15 @@ module _ (s : Setup) (w : World) (hs : List (List ℕ)) (clear : NoClash s.hash 
   idle xs within rests =
       subst (IsRefusedIf s (record w { hashed = xs })) (sym (rule_same s w xs r)) (idle_if xs within (rule_event s w r) refl rests)
 
-all_idle : (s : Setup) (w : World) (hs xs : List (List ℕ)) → NoClash s.hash hs → Within xs hs → (rs : List Rule)
+all_idle : (s : Setup) (w : World) (hs xs : List (List ℕ)) → NoCollision s.hash hs → Within xs hs → (rs : List Rule)
     → AllByRecursion (Rests s w hs) rs → AllByRecursion (IsIdle s (record w { hashed = xs })) rs
 all_idle s w hs xs clear within [] h = tt
 all_idle s w hs xs clear within (r ∷ rs) h = (idle s w hs clear r xs within h.0, all_idle s w hs xs clear within rs h.1)
 
 -- ---- the strategy
 
--- no two messages of a run's world clash
-clear_after : (s : Setup) (es : List Event) → IsRun s es → NoClash s.hash (last_world s es).hashed
+-- no two messages of a run's world collision
+clear_after : (s : Setup) (es : List Event) → IsRun s es → NoCollision s.hash (last_world s es).hashed
 clear_after s es run = record { one = (worlds_of_runs s es run).messages.different }
 
 ends : (s : Setup) (es : List Event) (rules : List Rule) → IsRun s es

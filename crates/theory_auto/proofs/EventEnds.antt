@@ -39,8 +39,8 @@ join : (xs ys : List ℕ) → EndsNowhere xs → EndsNowhere ys → EndsNowhere 
 join xs ys h k = lacks_append ends_line xs ys h k
 
 -- behind bytes that are known
-behind : (front rest : List ℕ) → list_all (λ b. not (ends_line b)) front ≡ true → EndsNowhere rest → EndsNowhere (front ++ rest)
-behind front rest h k = join front rest (lacks_by ends_line front h) k
+behind : (prefix rest : List ℕ) → list_all (λ b. not (ends_line b)) prefix ≡ true → EndsNowhere rest → EndsNowhere (prefix ++ rest)
+behind prefix rest h k = join prefix rest (lacks_by ends_line prefix h) k
 
 -- ---- words
 

@@ -9,8 +9,8 @@ use Rattle.spec_run.specs.declared.outcome.Record.{Record}
 use Rattle.spec_data.specs.Messages.{collision}
 use Rattle.spec_run.specs.Setup.{Setup}
 use Rattle.spec_run.specs.World.{World}
-use Rattle.spec_run.specs.Draft.{guess, settled, settle}
-use Rattle.spec_run.specs.Event.{Passed, Progress as Played, draft, goes_on, onto_passed, record_of, opening_world, played_from, played}
+use Rattle.spec_run.specs.Pending.{guess, applied, apply}
+use Rattle.spec_run.specs.Event.{Passed, Progress as Played, pending, goes_on, onto_passed, record_of, opening_world, played_from, played}
 use Rattle.spec_run.specs.Translation.{turn_of, turns_from, world_after, record_in, opening_configuration, trace, last_world, first_halt}
 use Rattle.spec_run.specs.Values.{is_refused}
 use Rattle.spec_run.proofs.Courses.{before, passing, played-went, last_left}
@@ -23,7 +23,7 @@ abbrev all_went : List Passed → Played
 all_went ps = record { passed = ps; halt = None }
 
 abbrev WasNotRefused : Passed → Type 0
-WasNotRefused p = is_refused p.draft.outcome ≡ false
+WasNotRefused p = is_refused p.pending.outcome ≡ false
 
 -- these events are played from this world on, and lead to the last
 record Goes (s : Setup) (w : World) (es : List Event) (last : World) : Type 0 where
@@ -39,7 +39,7 @@ goes s [] (e ∷ es) w last t = absurd t
 goes s (r ∷ rs) [] w last t = absurd t
 goes s (r ∷ rs) (e ∷ es) w last t =
     let later = goes s rs es t.next last t.goes_on in
-    let p : Passed = record { event = e; draft = t.came_to; world = t.next } in
+    let p : Passed = record { event = e; pending = t.came_to; world = t.next } in
     record {
       passed = p ∷ later.passed;
       is = played-went s w e es t.came_to t.next t.went ∙ ap (onto_passed p) later.is;
@@ -56,20 +56,20 @@ played_behind : (s : Setup) (es more : List Event) (w last : World) → (played_
     → played_from s w (es ++ more) ≡ before (played_from s w es).passed (played_from s last more)
 played_behind s [] more w last on there = ap (λ x. played_from s x more) there
 played_behind s (x ∷ es) more w last on there =
-    let d = draft s w x in
+    let d = pending s w x in
     by_answer (collision s.hash w.hashed d.hashes) (guess s w.posted d.posts d.allowed) on there
     (λ next f t. played_behind s es more next last f t)
   where
     by_answer : (c : Option (List ℕ × List ℕ)) (u : Option HeldSecret)
-        → (goes_on x (settle w (draft s w x) c u) (λ next. played_from s next es)).halt ≡ None
-        → world_after w (goes_on x (settle w (draft s w x) c u) (λ next. played_from s next es)).passed ≡ last
+        → (goes_on x (apply w (pending s w x) c u) (λ next. played_from s next es)).halt ≡ None
+        → world_after w (goes_on x (apply w (pending s w x) c u) (λ next. played_from s next es)).passed ≡ last
         → ((next : World) → (played_from s next es).halt ≡ None → world_after next (played_from s next es).passed ≡ last
         → played_from s next (es ++ more) ≡ before (played_from s next es).passed (played_from s last more))
-        → goes_on x (settle w (draft s w x) c u) (λ next. played_from s next (es ++ more))
-        ≡ before (goes_on x (settle w (draft s w x) c u) (λ next. played_from s next es)).passed (played_from s last more)
+        → goes_on x (apply w (pending s w x) c u) (λ next. played_from s next (es ++ more))
+        ≡ before (goes_on x (apply w (pending s w x) c u) (λ next. played_from s next es)).passed (played_from s last more)
     by_answer (Some pair) u f t ih = cc
     by_answer None (Some held) f t ih = cc
-    by_answer None None f t ih = ap (onto_passed (passing s w x)) (ih (settled w (draft s w x)) f t)
+    by_answer None None f t ih = ap (onto_passed (passing s w x)) (ih (applied w (pending s w x)) f t)
 
 left_behind : (ps qs : List Passed) (w last : World) → world_after w ps ≡ last → world_after w (ps ++ qs) ≡ world_after last qs
 left_behind [] qs w last h = ap (λ x. world_after x qs) h
@@ -78,7 +78,7 @@ left_behind (p ∷ ps) qs w last h = left_behind ps qs p.world last h
 -- ---- the trace
 
 abbrev recorded : Passed → Record
-recorded p = record_of p.event p.draft
+recorded p = record_of p.event p.pending
 
 -- the records don't hang on the strings that are posted later
 records_of : (s : Setup) (z : List (List ℕ)) (ps : List Passed) (g : Configuration) (w : World)

@@ -143,16 +143,16 @@ events_lined (e ∷ es) = ap (λ (xs : List ℕ). (event_text e ++ newline) ++ x
 
 -- ---- both
 
-abbrev front_text : Header → List ℕ
-front_text h =
+abbrev prefix_text : Header → List ℕ
+prefix_text h =
     flat_map party_text h.parties
     ++ (flat_map honest_text h.honest ++ (flat_map secret_text h.secrets ++ (flat_map deposit_text h.deposits ++ codes "--")))
 
 five_parts : (a b c d e f : List ℕ) → a ++ (b ++ (c ++ (d ++ (e ++ f)))) ≡ (a ++ (b ++ (c ++ (d ++ e)))) ++ f
 five_parts a b c d e f = simp append_assoc
 
-front_is : (h : Header) → header_text h ≡ front_text h ++ newline
-front_is h =
+prefix_is : (h : Header) → header_text h ≡ prefix_text h ++ newline
+prefix_is h =
     five_parts (flat_map party_text h.parties) (flat_map honest_text h.honest) (flat_map secret_text h.secrets)
     (flat_map deposit_text h.deposits) (codes "--") newline
 
@@ -161,11 +161,11 @@ run_lines : (h : Header) (es : List Event) (parties : List (List ℕ)) → AreWr
 run_lines h es parties written =
     let rest = flat_map (λ e. event_text e ++ newline) es in
     let lines = map event_text es in
-    let whole : header_text h ++ rest ≡ front_text h ++ 10 ∷ rest =
-    ap (λ (xs : List ℕ). xs ++ rest) (front_is h) ∙ append_assoc (front_text h) newline rest in
+    let whole : header_text h ++ rest ≡ prefix_text h ++ 10 ∷ rest =
+    ap (λ (xs : List ℕ). xs ++ rest) (prefix_is h) ∙ append_assoc (prefix_text h) newline rest in
     let events : lines_of rest ≡ lines = ap lines_of (events_lined es) ∙ lines_again lines (written_end parties 0 es written) in
     ap lines_of whole
-    ∙ (two_texts (front_text h) rest ∙ (λ i. lines_of (sym (front_is h) i) ++ events i))
+    ∙ (two_texts (prefix_text h) rest ∙ (λ i. lines_of (sym (prefix_is h) i) ++ events i))
 
 -- the header was read, and nothing behind it
 record HeaderAlone (h : Header) (lines : List (List ℕ)) : Type 0 where
@@ -199,10 +199,10 @@ header_alone h lines (Ok x) is e =
 pub run_reread : (h : Header) (es : List Event) → read_run (header_text h) ≡ a_run (alone h) → AreWritten h.parties 0 es
     → read_run (run_text (record { header = h; events = es })) ≡ a_run (record { header = h; events = es })
 run_reread h es again written =
-    let front = lines_of (header_text h) in
+    let prefix = lines_of (header_text h) in
     let lines = map event_text es in
-    let a = header_alone h front (read_header no_header 1 front) refl again in
-    let header = header_more no_header 1 front lines (h, a.rest, a.number) a.read in
+    let a = header_alone h prefix (read_header no_header 1 prefix) refl again in
+    let header = header_more no_header 1 prefix lines (h, a.rest, a.number) a.read in
     let idle = idle_lines h.parties a.number a.rest lines a.idle in
     let events = idle.read ∙ written_read h.parties 0 idle.number es written in
     ap (λ (ls : List (List ℕ)). read_rest (read_header no_header 1 ls)) (run_lines h es h.parties written)

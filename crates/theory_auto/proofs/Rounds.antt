@@ -12,7 +12,7 @@ use Rattle.spec_run.specs.Setup.{Setup}
 use Rattle.spec_run.specs.World.{World}
 use Rattle.spec_tool.specs.declared.rule.Rule.{Rule}
 use Rattle.spec_tool.specs.Turns.{rule_event, Progress, Progressed, tried_if, resting, round, after_events, rounds_on, rounds}
-use Rattle.theory_world.specs.KeptApart.{NoClash}
+use Rattle.theory_world.specs.KeptApart.{NoCollision}
 use Rattle.theory_auto.specs.Continued.{AreTaken, HaltsAt}
 use Rattle.theory_run.proofs.Fewer.{Within}
 use Rattle.theory_auto.proofs.HashlessRules.{rule_same}
@@ -20,7 +20,7 @@ use Rattle.theory_auto.proofs.Tries.{Rests, RestsIf, Moved, MovesBy, kept_moved,
 
 -- ---- one round
 
-nothing_moved : (s : Setup) (w : World) (hs : List (List ℕ)) → Within w.hashed hs → NoClash s.hash hs
+nothing_moved : (s : Setup) (w : World) (hs : List (List ℕ)) → Within w.hashed hs → NoCollision s.hash hs
     → Moved s w hs [] (resting (record w { hashed = hs }))
 nothing_moved s w hs within clear = record {
   taken = [];
@@ -34,7 +34,7 @@ nothing_moved s w hs within clear = record {
   rests = λ none. tt;
 }
 
-pub round_moves : (s : Setup) (rules : List Rule) (w : World) (hs : List (List ℕ)) → Within w.hashed hs → NoClash s.hash hs
+pub round_moves : (s : Setup) (rules : List Rule) (w : World) (hs : List (List ℕ)) → Within w.hashed hs → NoCollision s.hash hs
     → MovesBy s w hs rules (round s (record w { hashed = hs }) rules)
 round_moves s [] w hs within clear = nothing_moved s w hs within clear
 round_moves s (r ∷ rs) w hs within clear =
@@ -42,7 +42,7 @@ round_moves s (r ∷ rs) w hs within clear =
     (by_event (rule_event s w r) refl (round_moves s rs))
   where
     by_event : (o : Option Event) → rule_event s w r ≡ o
-        → ((v : World) (gs : List (List ℕ)) → Within v.hashed gs → NoClash s.hash gs → MovesBy s v gs rs
+        → ((v : World) (gs : List (List ℕ)) → Within v.hashed gs → NoCollision s.hash gs → MovesBy s v gs rs
         (round s (record v { hashed = gs }) rs))
         → MovesBy s w hs (r ∷ rs) (tried_if s (record w { hashed = hs }) r o (λ next. round s next rs))
     by_event None h later =
@@ -87,7 +87,7 @@ pub record Ended (s : Setup) (w : World) (rules : List Rule) (p : Progress) : Ty
   pub by : AreTaken s w taken p.events last
   pub world : p.world ≡ record last { hashed = p.world.hashed }
   pub within : Within last.hashed p.world.hashed
-  pub clear : NoClash s.hash p.world.hashed
+  pub clear : NoCollision s.hash p.world.hashed
   pub rests : AllByRecursion (Rests s last p.world.hashed) p.left
 
 abbrev pub EndsBy : Setup → World → List Rule → Progressed → Type 0
@@ -154,14 +154,14 @@ behind s w hs rules p m (Ok q) h = record {
 }
 
 pub rounds_end : (s : Setup) (n : ℕ) (rules : List Rule) (w : World) (hs : List (List ℕ)) → length rules < n → Within w.hashed hs
-    → NoClash s.hash hs → EndsBy s w rules (rounds n s (record w { hashed = hs }) rules)
+    → NoCollision s.hash hs → EndsBy s w rules (rounds n s (record w { hashed = hs }) rules)
 unfolding rounds
 rounds_end s zero rules w hs few within clear = absurd (omega (arith, few))
 rounds_end s (suc n) rules w hs few within clear =
     by_round (round s (record w { hashed = hs }) rules) (round_moves s rules w hs within clear) (rounds_end s n)
   where
     by_round : (x : Progressed) → MovesBy s w hs rules x
-        → ((left : List Rule) (v : World) (gs : List (List ℕ)) → length left < n → Within v.hashed gs → NoClash s.hash gs
+        → ((left : List Rule) (v : World) (gs : List (List ℕ)) → length left < n → Within v.hashed gs → NoCollision s.hash gs
         → EndsBy s v left (rounds n s (record v { hashed = gs }) left))
         → EndsBy s w rules (rounds_on x (λ next left. rounds n s next left))
     by_round (Err halt) m later = m

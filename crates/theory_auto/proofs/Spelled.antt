@@ -122,13 +122,13 @@ rest_known text run (Ok x) is all e =
     let head = subst IsRead made.header' of in
     let events = ap (λ (h : Header). read_events h.parties 0 (x.2) (x.1)) (sym made.header') ∙ made.events' in
     let lines = lines_rewritten run.header.parties head.party_names 0 (x.2) (x.1) run.events events in
-    let front = header_within no_header 1 (lines_of text) x is in
+    let prefix = header_within no_header 1 (lines_of text) x is in
     let same = ap (λ (h : Header). length (header_text h)) made.header' in
     record {
       again = printed_header text run all;
       names = head.honest_names;
       written = lines.written;
-      size = omega (arith, front, same, lines.size, text_size text);
+      size = omega (arith, prefix, same, lines.size, text_size text);
     }
 
 judged_is : (read : Result Run RunFault) (run : Run) → judged_run read ≡ Ok run → read ≡ a_run run

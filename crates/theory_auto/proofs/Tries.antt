@@ -10,28 +10,28 @@ use Rattle.spec_data.specs.Lists.{is_among}
 use Rattle.spec_data.specs.Messages.{noted_all, collision}
 use Rattle.spec_run.specs.Setup.{Setup}
 use Rattle.spec_run.specs.World.{World}
-use Rattle.spec_run.specs.Draft.{Draft, Halt, Went, Halted, Collided, Guessed, guess, settle, settled}
-use Rattle.spec_run.specs.Event.{draft, event}
+use Rattle.spec_run.specs.Pending.{Pending, Halt, Went, Halted, Collided, Guessed, guess, apply, applied}
+use Rattle.spec_run.specs.Event.{pending, event}
 use Rattle.spec_run.specs.Halting.{HaltIsThere}
 use Rattle.spec_run.specs.Values.{is_refused, RefusedKept}
 use Rattle.spec_tool.specs.declared.rule.Rule.{Rule}
 use Rattle.spec_tool.specs.Turns.{rule_event, Progress, Progressed, keeps, takes, tried, round}
-use Rattle.theory_world.specs.KeptApart.{NoClash}
-use Rattle.theory_world.proofs.Hashed.{no_clash, all_new, all_more}
+use Rattle.theory_world.specs.KeptApart.{NoCollision}
+use Rattle.theory_world.proofs.Hashed.{no_collision, all_new, all_more}
 use Rattle.theory_world.proofs.Refused.{refusals_keep}
 use Rattle.theory_run.proofs.Halting.Halts.{collides, calm_is, guesses}
 use Rattle.theory_auto.specs.Continued.{AreTaken, HaltsAt}
 use Rattle.theory_run.proofs.Fewer.{Within, all_within, collision_within}
-use Rattle.theory_run.proofs.Events.Hashless.{carried, draft_same}
+use Rattle.theory_run.proofs.Events.Hashless.{carried, pending_same}
 use Rattle.theory_auto.proofs.HashlessRules.{rule_same}
 
 -- ---- rules that rest
 
 -- the event is refused whatever else was hashed, and what it hashes was hashed
 pub record RestsBy (s : Setup) (w : World) (hs : List (List ℕ)) (e : Event) : Type 0 where
-  pub refused : is_refused (draft s w e).outcome ≡ true
-  pub heard : Within (draft s w e).hashes hs
-  pub unguessed : guess s w.posted (draft s w e).posts (draft s w e).allowed ≡ None
+  pub refused : is_refused (pending s w e).outcome ≡ true
+  pub heard : Within (pending s w e).hashes hs
+  pub unguessed : guess s w.posted (pending s w e).posts (pending s w e).allowed ≡ None
 
 abbrev pub RestsIf : Setup → World → List (List ℕ) → Option Event → Type 0
 RestsIf s w hs None = Unit {0}
@@ -50,7 +50,7 @@ pub record Moved (s : Setup) (w : World) (hs : List (List ℕ)) (rules : List Ru
   pub by : AreTaken s w taken p.events last
   pub world : p.world ≡ record last { hashed = p.world.hashed }
   pub within : Within last.hashed p.world.hashed
-  pub clear : NoClash s.hash p.world.hashed
+  pub clear : NoCollision s.hash p.world.hashed
   pub grown : Within hs p.world.hashed
   pub rests : length p.events ≡ 0 → AllByRecursion (Rests s w p.world.hashed) p.left
 
@@ -72,12 +72,12 @@ halts_kept s w r rs halt h = record {
   others = r ∷ h.others;
   each_once =
       let one = h.rule ∷ [] in
-      let front : IsPermutation (h.rules_taken ++ h.rule ∷ (r ∷ h.others)) (r ∷ ((h.rules_taken ++ one) ++ h.others)) =
+      let prefix : IsPermutation (h.rules_taken ++ h.rule ∷ (r ∷ h.others)) (r ∷ ((h.rules_taken ++ one) ++ h.others)) =
       subst (λ xs. IsPermutation xs (r ∷ ((h.rules_taken ++ one) ++ h.others))) (append_assoc h.rules_taken one (r ∷ h.others))
       (IsPermutation-middle (h.rules_taken ++ one) r h.others) in
       let back : IsPermutation ((h.rules_taken ++ one) ++ h.others) rs =
       subst (λ xs. IsPermutation xs rs) (sym (append_assoc h.rules_taken one h.others)) h.each_once in
-      IsPermutation-trans _ _ _ front (IsPermutation-cons r ((h.rules_taken ++ one) ++ h.others) rs back);
+      IsPermutation-trans _ _ _ prefix (IsPermutation-cons r ((h.rules_taken ++ one) ++ h.others) rs back);
   halting = h.halting;
   has = h.has;
   halts = h.halts;
@@ -101,7 +101,7 @@ kept_moved s w hs more r rs (Ok p) grows rests m = record {
 
 -- ---- a rule that is taken
 
-module _ (s : Setup) (w next : World) (d : Draft) (r : Rule) (e : Event) (has : rule_event s w r ≡ Some e)
+module _ (s : Setup) (w next : World) (d : Pending) (r : Rule) (e : Event) (has : rule_event s w r ≡ Some e)
     (went : event s w e ≡ Went d next)
     (not_refused : is_refused d.outcome ≡ false) where
   taken_first : (rs : List Rule) (es : List Event) (last : World) → AreTaken s next rs es last → AreTaken s w (r ∷ rs) (e ∷ es) last
@@ -140,16 +140,16 @@ module _ (s : Setup) (w next : World) (d : Draft) (r : Rule) (e : Event) (has : 
 
 -- the rules behind it move on from any world
 abbrev GoesOn : Setup → List Rule → Type 0
-GoesOn s rs = (w : World) (hs : List (List ℕ)) → Within w.hashed hs → NoClash s.hash hs
+GoesOn s rs = (w : World) (hs : List (List ℕ)) → Within w.hashed hs → NoCollision s.hash hs
     → MovesBy s w hs rs (round s (record w { hashed = hs }) rs)
 
 module _ (s : Setup) (w : World) (hs : List (List ℕ)) (r : Rule) (rs : List Rule) (e : Event) (has : rule_event s w r ≡ Some e)
-    (within : Within w.hashed hs) (clear : NoClash s.hash hs) (later : GoesOn s rs) where
+    (within : Within w.hashed hs) (clear : NoCollision s.hash hs) (later : GoesOn s rs) where
   abbrev there : World
   there = record w { hashed = hs }
 
-  abbrev comes : Draft
-  comes = draft s there e
+  abbrev comes : Pending
+  comes = pending s there e
 
   abbrev go : World → Progressed
   go next = round s next rs
@@ -176,55 +176,55 @@ module _ (s : Setup) (w : World) (hs : List (List ℕ)) (r : Rule) (rs : List Ru
     abbrev after : List (List ℕ)
     after = noted_all hs comes.hashes
 
-    same : comes ≡ carried hs (draft s w e)
-    same = draft_same s w hs e
+    same : comes ≡ carried hs (pending s w e)
+    same = pending_same s w hs e
 
-    went : event s there e ≡ Went comes (settled there comes)
+    went : event s there e ≡ Went comes (applied there comes)
     went = rw (calm, unguessed) refl
 
     grows : Within hs after
     grows = λ t i. all_more hs comes.hashes t i
 
-    refused_moved : is_refused comes.outcome ≡ true → MovesBy s w hs (r ∷ rs) (keeps r (go (settled there comes)))
+    refused_moved : is_refused comes.outcome ≡ true → MovesBy s w hs (r ∷ rs) (keeps r (go (applied there comes)))
     refused_moved refused =
-        let kept : settled there comes ≡ record w { hashed = after } = subst (RefusedKept there) went (refusals_keep s there e) refused in
+        let kept : applied there comes ≡ record w { hashed = after } = subst (RefusedKept there) went (refusals_keep s there e) refused in
         let more : Within w.hashed after = λ t i. grows t (within t i) in
-        let m = later w after more (no_clash s.hash hs comes.hashes clear calm) in
+        let m = later w after more (no_collision s.hash hs comes.hashes clear calm) in
         let rests : (x : List (List ℕ)) → Within after x → Rests s w x r =
         λ x h. subst (RestsIf s w x) (sym has) (record {
-          refused = ap (λ (d : Draft). is_refused d.outcome) (sym same) ∙ refused;
-          heard = λ t i. h t (all_new hs comes.hashes t (ap (λ (d : Draft). is_among t d.hashes) same ∙ i));
-          unguessed = ap (λ (d : Draft). guess s w.posted d.posts d.allowed) (sym same) ∙ unguessed;
+          refused = ap (λ (d : Pending). is_refused d.outcome) (sym same) ∙ refused;
+          heard = λ t i. h t (all_new hs comes.hashes t (ap (λ (d : Pending). is_among t d.hashes) same ∙ i));
+          unguessed = ap (λ (d : Pending). guess s w.posted d.posts d.allowed) (sym same) ∙ unguessed;
         }) in
         subst (λ x. MovesBy s w hs (r ∷ rs) (keeps r (go x))) (sym kept)
         (kept_moved s w hs after r rs (go (record w { hashed = after })) grows rests m)
 
-    done_moved : is_refused comes.outcome ≡ false → MovesBy s w hs (r ∷ rs) (takes e (go (settled there comes)))
+    done_moved : is_refused comes.outcome ≡ false → MovesBy s w hs (r ∷ rs) (takes e (go (applied there comes)))
     done_moved done =
-        let d = draft s w e in
-        let next = settled w d in
+        let d = pending s w e in
+        let next = applied w d in
         let hs' = noted_all hs d.hashes in
-        let calm' : collision s.hash hs d.hashes ≡ None = ap (λ (x : Draft). collision s.hash hs x.hashes) (sym same) ∙ calm in
-        let unguessed' : guess s w.posted d.posts d.allowed ≡ None = ap (λ (x : Draft). guess s w.posted x.posts x.allowed) (sym same)
+        let calm' : collision s.hash hs d.hashes ≡ None = ap (λ (x : Pending). collision s.hash hs x.hashes) (sym same) ∙ calm in
+        let unguessed' : guess s w.posted d.posts d.allowed ≡ None = ap (λ (x : Pending). guess s w.posted x.posts x.allowed) (sym same)
         ∙ unguessed in
         let calm_there : collision s.hash w.hashed d.hashes ≡ None = collision_within s.hash w.hashed hs d.hashes within calm' in
         let went_there : event s w e ≡ Went d next = rw (calm_there, unguessed') refl in
-        let is : settled there comes ≡ record next { hashed = hs' } = ap (settled there) same in
-        let m = later next hs' (all_within w.hashed hs d.hashes within) (no_clash s.hash hs d.hashes clear calm') in
-        let done' : is_refused d.outcome ≡ false = ap (λ (x : Draft). is_refused x.outcome) (sym same) ∙ done in
+        let is : applied there comes ≡ record next { hashed = hs' } = ap (applied there) same in
+        let m = later next hs' (all_within w.hashed hs d.hashes within) (no_collision s.hash hs d.hashes clear calm') in
+        let done' : is_refused d.outcome ≡ false = ap (λ (x : Pending). is_refused x.outcome) (sym same) ∙ done in
         subst (λ x. MovesBy s w hs (r ∷ rs) (takes e (go x))) (sym is)
         (taken_moved s w next d r e has went_there done' hs hs' rs (go (record next { hashed = hs' })) (λ t i. all_more hs d.hashes t i) m)
 
     went_moved : (b : Bool) → is_refused comes.outcome ≡ b
-        → MovesBy s w hs (r ∷ rs) (if b then keeps r (go (settled there comes)) else takes e (go (settled there comes)))
+        → MovesBy s w hs (r ∷ rs) (if b then keeps r (go (applied there comes)) else takes e (go (applied there comes)))
     went_moved true h = refused_moved h
     went_moved false h = done_moved h
 
   answer_moved : (c : Option (List ℕ × List ℕ)) (g : Option HeldSecret) → collision s.hash hs comes.hashes ≡ c
-      → guess s w.posted comes.posts comes.allowed ≡ g → MovesBy s w hs (r ∷ rs) (tried r e (settle there comes c g) go)
+      → guess s w.posted comes.posts comes.allowed ≡ g → MovesBy s w hs (r ∷ rs) (tried r e (apply there comes c g) go)
   answer_moved (Some pair) g ec eu =
       halts_here (Collided (pair.0) (pair.1))
-      (ap (λ o. settle there comes o (guess s w.posted comes.posts comes.allowed)) ec)
+      (ap (λ o. apply there comes o (guess s w.posted comes.posts comes.allowed)) ec)
       (collides s.hash hs comes.hashes (pair.0) (pair.1) clear ec)
   answer_moved None (Some held) ec eu =
       halts_here (Guessed held.party held.name) (rw (ec, eu) refl)

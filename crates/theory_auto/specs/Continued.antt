@@ -7,7 +7,7 @@ use Rattle.spec_run.specs.declared.event.Event.{Event}
 use Rattle.spec_run.specs.declared.outcome.Record.{Record}
 use Rattle.spec_run.specs.Setup.{Setup}
 use Rattle.spec_run.specs.World.{World}
-use Rattle.spec_run.specs.Draft.{Draft, Halt, Answer, Went, Halted}
+use Rattle.spec_run.specs.Pending.{Pending, Halt, Answer, Went, Halted}
 use Rattle.spec_run.specs.Event.{event}
 use Rattle.spec_run.specs.Halting.{HaltIsThere}
 use Rattle.spec_run.specs.Values.{is_refused}
@@ -21,7 +21,7 @@ use Rattle.spec_tool.specs.Turns.{rule_event, Progress, extended}
 -- the rule has this event in the world, where it is done or accepted, and so it goes later
 pub record IsTaken (s : Setup) (w : World) (r : Rule) (e : Event) (later : World → Type 0) : Type 0 where
   pub has : rule_event s w r ≡ Some e
-  pub came_to : Draft
+  pub came_to : Pending
   pub next : World
   pub went : event s w e ≡ Went came_to next
   pub not_refused : is_refused came_to.outcome ≡ false

@@ -1,4 +1,5 @@
-//! What follows of strategies: each theorem is the contract of a function that does nothing.
+//! Theorems on strategies: the added events are the rules', each once, and the longer run is one of which the theorems
+//! on runs speak. Each is the contract of a function that does nothing.
 #![tactic(auto)]
 
 ghost use Rattle.theory_auto.specs.Continued.{StrategiesGoOn};

@@ -18,7 +18,7 @@ use Rattle.theory_bitcoin.proofs.Transactions.{with_bytes, starts_plain, bare_ma
 use Rattle.theory_bitcoin.proofs.Top.{one_transaction}
 use Rattle.theory_bitcoin.specs.Places.{AllPlaces}
 
--- ---- fronts of one length
+-- ---- prefixes of one length
 
 pub cut : {X : Type 0} (a b x y : List X) → length a ≡ length b → a ++ x ≡ b ++ y → (a ≡ b) × (x ≡ y)
 cut [] [] x y n e = (refl, e)
@@ -41,7 +41,8 @@ long_words : (m n : ℕ) (x y : List ℕ) → m < 2 ^ 64 → n < 2 ^ 64 → long
 long_words m n x y h k e = let r = cut (long_word m) (long_word n) x y refl e in (number_once w64 (2 ^ 64) wide64 m n h k r.0, r.1)
 
 pub strings : (s t x y : List ℕ) → IsString s → IsString t → sized s ++ x ≡ sized t ++ y → (s ≡ t) × (x ≡ y)
-strings s t x y h k e = same_answer String string_at the_string (sized s) x (sized t) y s t (record { same = refl; fits = h }) (record { same = refl; fits = k }) e
+strings s t x y h k e =
+    same_answer String string_at the_string (sized s) x (sized t) y s t (record { same = refl; fits = h }) (record { same = refl; fits = k }) e
 
 pub places : (p q : OutPoint) (x y : List ℕ) → IsPlace p → IsPlace q → place_bytes p ++ x ≡ place_bytes q ++ y → (p ≡ q) × (x ≡ y)
 places p q x y h k e =
@@ -51,7 +52,8 @@ places p q x y h k e =
     let same : p ≡ q = λ i. record { txid = r.0 i; vout = u.0 i } in
     (same, u.1)
 
-digests : (hash : List ℕ → List ℕ) (m n x y : List ℕ) → ((message : List ℕ) → length (hash message) ≡ 32) → double hash m ++ x ≡ double hash n ++ y → (double hash m ≡ double hash n) × (x ≡ y)
+digests : (hash : List ℕ → List ℕ) (m n x y : List ℕ) → ((message : List ℕ) → length (hash message) ≡ 32) → double hash m ++ x
+    ≡ double hash n ++ y → (double hash m ≡ double hash n) × (x ≡ y)
 digests hash m n x y is_hash e = cut (double hash m) (double hash n) x y (omega (arith, is_hash (hash m), is_hash (hash n))) e
 
 -- ---- the digest
@@ -61,13 +63,18 @@ regroup a b c d e f g h k l = simp append_assoc
 
 abbrev parts_of : (List ℕ → List ℕ) → Tx → TxIn → List ℕ → ℕ → List ℕ
 parts_of hash tx i s v =
-    word tx.version ++ (double hash (places_list tx) ++ (double hash (sequences_list tx) ++ (place_bytes i.prev ++ (sized s ++ (long_word v ++ (word i.sequence ++ (double hash (outputs_list tx) ++ (word tx.lock ++ word 1))))))))
+    word tx.version ++ (double hash (places_list tx)
+    ++ (double hash (sequences_list tx) ++ (place_bytes i.prev
+    ++ (sized s ++ (long_word v ++ (word i.sequence ++ (double hash (outputs_list tx) ++ (word tx.lock ++ word 1))))))))
 
 preimage_is : (hash : List ℕ → List ℕ) (tx : Tx) (i : TxIn) (s : List ℕ) (v : ℕ) → preimage hash tx i s v ≡ parts_of hash tx i s v
 unfolding preimage
-preimage_is hash tx i s v = regroup (word tx.version) (double hash (places_list tx)) (double hash (sequences_list tx)) (place_bytes i.prev) (sized s) (long_word v) (word i.sequence) (double hash (outputs_list tx)) (word tx.lock) (word 1)
+preimage_is hash tx i s v = regroup (word tx.version) (double hash (places_list tx)) (double hash (sequences_list tx)) (place_bytes i.prev)
+    (sized s) (long_word v) (word i.sequence) (double hash (outputs_list tx)) (word tx.lock) (word 1)
 
-pub preimage_once : (hash : List ℕ → List ℕ) (a b : Tx) (i j : TxIn) (s t : List ℕ) (v w : ℕ) → ((message : List ℕ) → length (hash message) ≡ 32) → IsSigned a i s v → IsSigned b j t w → preimage hash a i s v ≡ preimage hash b j t w → IsSameSigned hash a b i j s t v w
+pub preimage_once : (hash : List ℕ → List ℕ) (a b : Tx) (i j : TxIn) (s t : List ℕ) (v w : ℕ)
+    → ((message : List ℕ) → length (hash message) ≡ 32) → IsSigned a i s v → IsSigned b j t w → preimage hash a i s v
+    ≡ preimage hash b j t w → IsSameSigned hash a b i j s t v w
 preimage_once hash a b i j s t v w is_hash h k e =
     let e0 : parts_of hash a i s v ≡ parts_of hash b j t w = sym (preimage_is hash a i s v) ∙ e ∙ preimage_is hash b j t w in
     let r1 = words a.version b.version _ _ h.version k.version e0 in
@@ -93,7 +100,8 @@ pub inputs_places : (is : List TxIn) → AllByRecursion IsInput is → AllPlaces
 inputs_places [] h = tt
 inputs_places (i ∷ is) h = (h.0.prev, inputs_places is h.1)
 
-pub all_places : (xs ys : List TxIn) → AllPlaces xs → AllPlaces ys → flat_map prev_bytes xs ≡ flat_map prev_bytes ys → map (λ (i : TxIn). i.prev) xs ≡ map (λ (i : TxIn). i.prev) ys
+pub all_places : (xs ys : List TxIn) → AllPlaces xs → AllPlaces ys → flat_map prev_bytes xs ≡ flat_map prev_bytes ys
+    → map (λ (i : TxIn). i.prev) xs ≡ map (λ (i : TxIn). i.prev) ys
 all_places [] [] h k e = refl
 all_places [] (y ∷ ys) h k e = absurd (some_place y.prev (flat_map prev_bytes ys) (e ∙ flat_map-cons prev_bytes y ys) k.0)
 all_places (x ∷ xs) [] h k e = absurd (some_place x.prev (flat_map prev_bytes xs) (sym e ∙ flat_map-cons prev_bytes x xs) h.0)
@@ -102,7 +110,8 @@ all_places (x ∷ xs) (y ∷ ys) h k e =
     let rest = all_places xs ys h.1 k.1 r.1 in
     λ i. r.0 i ∷ rest i
 
-pub places_once : (a b : Tx) → AllByRecursion IsInput a.inputs → AllByRecursion IsInput b.inputs → places_list a ≡ places_list b → map (λ (i : TxIn). i.prev) a.inputs ≡ map (λ (i : TxIn). i.prev) b.inputs
+pub places_once : (a b : Tx) → AllByRecursion IsInput a.inputs → AllByRecursion IsInput b.inputs → places_list a ≡ places_list b
+    → map (λ (i : TxIn). i.prev) a.inputs ≡ map (λ (i : TxIn). i.prev) b.inputs
 unfolding places_list
 places_once a b h k e = all_places a.inputs b.inputs (inputs_places a.inputs h) (inputs_places b.inputs k) e
 
@@ -197,7 +206,15 @@ inputless_apart a b none h e =
     let n = bares_length b.inputs in
     let plain : Plain (body_bytes (map bare_input b.inputs, b.outputs)) (map bare_input b.inputs, b.outputs) = record {
       same = refl;
-      fits = record { inputs = record { some = omega (arith, n, h.some); few = omega (arith, n, h.few_inputs); each = bares_each b.inputs h.inputs }; outputs = record { few = h.few_outputs; each = h.outputs } };
+      fits = record {
+        inputs = record {
+          some = omega (arith, n, h.some);
+          few = omega (arith, n, h.few_inputs);
+          each = bares_each b.inputs
+              h.inputs;
+        };
+        outputs = record { few = h.few_outputs; each = h.outputs };
+      };
     } in
     let s = starts_plain.starts (body_bytes (map bare_input b.inputs, b.outputs)) (map bare_input b.inputs, b.outputs) plain in
     let r = cut (word a.version) (word b.version) _ _ refl (sym (no_inputs a none) ∙ e ∙ with_inputs b) in

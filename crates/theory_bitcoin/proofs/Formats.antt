@@ -59,29 +59,32 @@ pub record Number (w : Width) (low limit : ℕ) (text : List ℕ) (n : ℕ) : Ty
   pub least : low ≤ n
   pub most : n < limit
 
-number_to : (w : Width) (limit : ℕ) → IsWide w limit → (text : List ℕ) (n : ℕ) → Seq (Chunk (byte_len w)) (λ c. Nothing (from_le_bytes w c)) text n → Number w 0 limit text n
+number_to : (w : Width) (limit : ℕ) → IsWide w limit → (text : List ℕ) (n : ℕ)
+    → Seq (Chunk (byte_len w)) (λ c. Nothing (from_le_bytes w c)) text n → Number w 0 limit text n
 number_to w limit wide text n s =
-    let is : text ≡ s.value = s.parts ∙ ap (λ (l : List ℕ). s.first ++ l) s.back.empty ∙ append-nil s.first ∙ s.front.same in
+    let is : text ≡ s.value = s.parts ∙ ap (λ (l : List ℕ). s.first ++ l) s.back.empty ∙ append-nil s.first ∙ s.prefix.same in
     record {
-      bytes = is ∙ sym (wide.back s.value s.front.len s.front.fits) ∙ ap (to_le_bytes w) s.back.same;
+      bytes = is ∙ sym (wide.back s.value s.prefix.len s.prefix.fits) ∙ ap (to_le_bytes w) s.back.same;
       least = omega arith;
-      most = subst (λ (m : ℕ). m < limit) s.back.same (wide.below s.value s.front.fits);
+      most = subst (λ (m : ℕ). m < limit) s.back.same (wide.below s.value s.prefix.fits);
     }
 
-number_from : (w : Width) (limit : ℕ) → IsWide w limit → (text : List ℕ) (n : ℕ) → Number w 0 limit text n → Seq (Chunk (byte_len w)) (λ c. Nothing (from_le_bytes w c)) text n
+number_from : (w : Width) (limit : ℕ) → IsWide w limit → (text : List ℕ) (n : ℕ) → Number w 0 limit text n
+    → Seq (Chunk (byte_len w)) (λ c. Nothing (from_le_bytes w c)) text n
 number_from w limit wide text n h = record {
   first = text;
   second = [];
   value = to_le_bytes w n;
   parts = sym (append-nil text);
-  front = record { same = h.bytes; len = wide.len n; fits = low_first_fits 0 (byte_len w) n };
+  prefix = record { same = h.bytes; len = wide.len n; fits = low_first_fits 0 (byte_len w) n };
   back = record { empty = refl; same = wide.again n h.most };
 }
 
 pub number : (w : Width) (limit : ℕ) → IsWide w limit → Exact (Number w 0 limit) (number_at w)
 number w limit wide =
     transfer (Seq (Chunk (byte_len w)) (λ c. Nothing (from_le_bytes w c))) (Number w 0 limit) (number_at w) (number_to w limit wide) (number_from w limit wide)
-    (bind (Chunk (byte_len w)) (λ c. Nothing (from_le_bytes w c)) (chunk (byte_len w)) (λ c bytes. Ok (from_le_bytes w c, bytes)) (a_chunk (byte_len w)) (λ c t l. pure (from_le_bytes w c)))
+    (bind (Chunk (byte_len w)) (λ c. Nothing (from_le_bytes w c)) (chunk (byte_len w)) (λ c bytes. Ok (from_le_bytes w c, bytes))
+    (a_chunk (byte_len w)) (λ c t l. pure (from_le_bytes w c)))
 
 one_fits : (b : ℕ) → b < 256 → IsBytes (b ∷ [])
 one_fits b lt zero = lt
@@ -89,11 +92,11 @@ one_fits b lt (suc i) = omega arith
 
 -- all bytes but the last, and the last
 record Last (bytes : List ℕ) (k : ℕ) : Type 0 where
-  front : List ℕ
+  prefix : List ℕ
   last : ℕ
-  parts : bytes ≡ front ++ last ∷ []
-  len : length front ≡ k
-  front_fits : IsBytes front
+  parts : bytes ≡ prefix ++ last ∷ []
+  len : length prefix ≡ k
+  prefix_fits : IsBytes prefix
   last_fits : last < 256
 
 last_of : (bytes : List ℕ) (k : ℕ) → length bytes ≡ k + 1 → IsBytes bytes → Last bytes k
@@ -101,11 +104,11 @@ last_of bytes k len fits =
     let d : drop k bytes ≡ get_or bytes k 0 ∷ drop (suc k) bytes = drop-cons bytes k 0 (omega (arith, len)) in
     let none : drop (suc k) bytes ≡ [] = drop_all (suc k) bytes (omega (arith, len)) in
     record {
-      front = take k bytes;
+      prefix = take k bytes;
       last = get_or bytes k 0;
       parts = sym (take-append-drop k bytes) ∙ ap (λ (l : List ℕ). take k bytes ++ l) (d ∙ ap (λ (l : List ℕ). get_or bytes k 0 ∷ l) none);
       len = omega (arith, length-take k bytes, len);
-      front_fits = IsBytes-take k bytes fits;
+      prefix_fits = IsBytes-take k bytes fits;
       last_fits = fits k;
     }
 
@@ -134,31 +137,31 @@ wide_to : (w : Width) (low limit : ℕ) → 0 < byte_len w → IsWide w limit �
 wide_to w low limit some wide text n s =
     let c = s.value in
     let b = s.back.value in
-    let is : text ≡ c ++ b ∷ [] = s.parts ∙ ap (λ (l : List ℕ). s.first ++ l) (s.back.parts ∙ ap (λ (l : List ℕ). s.back.first ++ l) s.back.back.empty ∙ append-nil s.back.first ∙ s.back.front.single) ∙ ap (λ (l : List ℕ). l ++ b ∷ []) s.front.same in
-    let len : length (c ++ b ∷ []) ≡ byte_len w = omega (arith, length-append c (b ∷ []), s.front.len) in
-    let fits : IsBytes (c ++ b ∷ []) = IsBytes-append c (b ∷ []) s.front.fits (one_fits b s.back.front.fits) in
+    let is : text ≡ c ++ b ∷ [] = s.parts ∙ ap (λ (l : List ℕ). s.first ++ l) (s.back.parts ∙ ap (λ (l : List ℕ). s.back.first ++ l) s.back.back.empty ∙ append-nil s.back.first ∙ s.back.prefix.single) ∙ ap (λ (l : List ℕ). l ++ b ∷ []) s.prefix.same in
+    let len : length (c ++ b ∷ []) ≡ byte_len w = omega (arith, length-append c (b ∷ []), s.prefix.len) in
+    let fits : IsBytes (c ++ b ∷ []) = IsBytes-append c (b ∷ []) s.prefix.fits (one_fits b s.back.prefix.fits) in
     record {
       bytes = is ∙ sym (wide.back (c ++ b ∷ []) len fits) ∙ ap (to_le_bytes w) s.back.back.same;
-      least = subst (λ (m : ℕ). low ≤ m) s.back.back.same (leb-true low (from_le_bytes w (c ++ b ∷ [])) s.back.front.passes);
+      least = subst (λ (m : ℕ). low ≤ m) s.back.back.same (leb-true low (from_le_bytes w (c ++ b ∷ [])) s.back.prefix.passes);
       most = subst (λ (m : ℕ). m < limit) s.back.back.same (wide.below (c ++ b ∷ []) fits);
     }
 
 wide_from : (w : Width) (low limit : ℕ) → 0 < byte_len w → IsWide w limit → (text : List ℕ) (n : ℕ) → Number w low limit text n → Wide w low text n
 wide_from w low limit some wide text n h =
     let l = last_of (to_le_bytes w n) (byte_len w - 1) (omega (arith, wide.len n)) (low_first_fits 0 (byte_len w) n) in
-    let again : from_le_bytes w (l.front ++ l.last ∷ []) ≡ n = ap (from_le_bytes w) (sym l.parts) ∙ wide.again n h.most in
+    let again : from_le_bytes w (l.prefix ++ l.last ∷ []) ≡ n = ap (from_le_bytes w) (sym l.parts) ∙ wide.again n h.most in
     record {
-      first = l.front;
+      first = l.prefix;
       second = l.last ∷ [];
-      value = l.front;
+      value = l.prefix;
       parts = h.bytes ∙ l.parts;
-      front = record { same = refl; len = l.len; fits = l.front_fits };
+      prefix = record { same = refl; len = l.len; fits = l.prefix_fits };
       back = record {
         first = l.last ∷ [];
         second = [];
         value = l.last;
         parts = refl;
-        front = record { single = refl; passes = le-leb low (from_le_bytes w (l.front ++ l.last ∷ [])) (rw again h.least); fits = l.last_fits };
+        prefix = record { single = refl; passes = le-leb low (from_le_bytes w (l.prefix ++ l.last ∷ [])) (rw again h.least); fits = l.last_fits };
         back = record { empty = refl; same = again };
       };
     }
@@ -169,7 +172,8 @@ wide w low limit some is top =
     transfer (Wide w low) (Number w low limit) (wide_at w low) (wide_to w low limit some is) (wide_from w low limit some is)
     (bind (Chunk (byte_len w - 1)) (λ c. Seq (One (large w low c)) (λ b. Nothing (from_le_bytes w (c ++ b ∷ [])))) (chunk (byte_len w - 1))
     (λ c bytes. byte_where (large w low c) bytes >>= λ b. Ok (from_le_bytes w (c ++ b.0 ∷ []), b.1)) (a_chunk (byte_len w - 1))
-    (λ c t l. bind (One (large w low c)) (λ b. Nothing (from_le_bytes w (c ++ b ∷ []))) (byte_where (large w low c)) (λ b bytes. Ok (from_le_bytes w (c ++ b ∷ []), bytes))
+    (λ c t l. bind (One (large w low c)) (λ b. Nothing (from_le_bytes w (c ++ b ∷ []))) (byte_where (large w low c))
+    (λ b bytes. Ok (from_le_bytes w (c ++ b ∷ []), bytes))
     (one (large w low c) 255 (le-leb low (from_le_bytes w (c ++ 255 ∷ [])) (top.topped c l.len)) (omega arith))
     (λ b u m. pure (from_le_bytes w (c ++ b ∷ [])))))
 
@@ -257,26 +261,32 @@ from_single : (b : ℕ) → b < 253 → Exact (From b) (λ bytes. Ok (b, bytes))
 from_single b lt = transfer (Nothing b) (From b) (λ bytes. Ok (b, bytes)) (single_to b lt) (λ t n h. single_from b lt t n h (form_of n)) (pure b)
 
 from_two : Exact (From 253) (wide_at w16 253)
-from_two = transfer (Number w16 253 (2 ^ 16)) (From 253) (wide_at w16 253) (λ t n h. two_to t n h (form_of n)) (λ t n h. two_from t n h (form_of n)) (wide w16 253 (2 ^ 16) (lit< tt) wide16 topped16)
+from_two = transfer (Number w16 253 (2 ^ 16)) (From 253) (wide_at w16 253) (λ t n h. two_to t n h (form_of n))
+    (λ t n h. two_from t n h (form_of n)) (wide w16 253 (2 ^ 16) (lit< tt) wide16 topped16)
 
 from_four : Exact (From 254) (wide_at w32 (2 ^ 16))
-from_four = transfer (Number w32 (2 ^ 16) (2 ^ 32)) (From 254) (wide_at w32 (2 ^ 16)) (λ t n h. four_to t n h (form_of n)) (λ t n h. four_from t n h (form_of n)) (wide w32 (2 ^ 16) (2 ^ 32) (lit< tt) wide32 topped32)
+from_four = transfer (Number w32 (2 ^ 16) (2 ^ 32)) (From 254) (wide_at w32 (2 ^ 16)) (λ t n h. four_to t n h (form_of n))
+    (λ t n h. four_from t n h (form_of n)) (wide w32 (2 ^ 16) (2 ^ 32) (lit< tt) wide32 topped32)
 
 from_eight : Exact (From 255) (wide_at w64 (2 ^ 32))
-from_eight = transfer (Number w64 (2 ^ 32) (2 ^ 64)) (From 255) (wide_at w64 (2 ^ 32)) (λ t n h. eight_to t n h (form_of n)) (λ t n h. eight_from t n h (form_of n)) (wide w64 (2 ^ 32) (2 ^ 64) (lit< tt) wide64 topped64)
+from_eight = transfer (Number w64 (2 ^ 32) (2 ^ 64)) (From 255) (wide_at w64 (2 ^ 32)) (λ t n h. eight_to t n h (form_of n))
+    (λ t n h. eight_from t n h (form_of n)) (wide w64 (2 ^ 32) (2 ^ 64) (lit< tt) wide64 topped64)
 
 above : (b : ℕ) → 253 ≤ b → b < 256 → (x : Bool) → eqb b 253 ≡ x → (y : Bool) → eqb b 254 ≡ y → Exact (From b) (compact_from b)
 above b le small true is y js =
     let e : b ≡ 253 = eqb-true _ _ is in
-    same_reader (From b) (wide_at w16 253) (compact_from b) (λ bytes. rw (le-ltb _ _ le, is) refl) (subst (λ (k : ℕ). Exact (From k) (wide_at w16 253)) (sym e) from_two)
+    same_reader (From b) (wide_at w16 253) (compact_from b) (λ bytes. rw (le-ltb _ _ le, is) refl)
+    (subst (λ (k : ℕ). Exact (From k) (wide_at w16 253)) (sym e) from_two)
 above b le small false is true js =
     let e : b ≡ 254 = eqb-true _ _ js in
-    same_reader (From b) (wide_at w32 (2 ^ 16)) (compact_from b) (λ bytes. rw (le-ltb _ _ le, is, js) refl) (subst (λ (k : ℕ). Exact (From k) (wide_at w32 (2 ^ 16))) (sym e) from_four)
+    same_reader (From b) (wide_at w32 (2 ^ 16)) (compact_from b) (λ bytes. rw (le-ltb _ _ le, is, js) refl)
+    (subst (λ (k : ℕ). Exact (From k) (wide_at w32 (2 ^ 16))) (sym e) from_four)
 above b le small false is false js =
     let n3 : b ≢ 253 = eqb-false _ _ is in
     let n4 : b ≢ 254 = eqb-false _ _ js in
     let e : b ≡ 255 = omega arith in
-    same_reader (From b) (wide_at w64 (2 ^ 32)) (compact_from b) (λ bytes. rw (le-ltb _ _ le, is, js) refl) (subst (λ (k : ℕ). Exact (From k) (wide_at w64 (2 ^ 32))) (sym e) from_eight)
+    same_reader (From b) (wide_at w64 (2 ^ 32)) (compact_from b) (λ bytes. rw (le-ltb _ _ le, is, js) refl)
+    (subst (λ (k : ℕ). Exact (From k) (wide_at w64 (2 ^ 32))) (sym e) from_eight)
 
 from_byte : (b : ℕ) → b < 256 → Exact (From b) (compact_from b)
 from_byte b small =
@@ -305,8 +315,8 @@ pub record Count (p : ℕ → Bool) (text : List ℕ) (n : ℕ) : Type 0 where
 
 count_to : (p : ℕ → Bool) (text : List ℕ) (n : ℕ) → Seq (One p) From text n → Count p text n
 count_to p text n s =
-    let is : text ≡ s.value ∷ s.second = s.parts ∙ ap (λ (l : List ℕ). l ++ s.second) s.front.single in
-    record { bytes = is ∙ s.back.is; most = s.back.most; head = λ b rest e. let same : s.value ≡ b = head_is s.value b s.second rest (sym is ∙ e) in ap p (sym same) ∙ s.front.passes }
+    let is : text ≡ s.value ∷ s.second = s.parts ∙ ap (λ (l : List ℕ). l ++ s.second) s.prefix.single in
+    record { bytes = is ∙ s.back.is; most = s.back.most; head = λ b rest e. let same : s.value ≡ b = head_is s.value b s.second rest (sym is ∙ e) in ap p (sym same) ∙ s.prefix.passes }
 
 count_from : (p : ℕ → Bool) (text : List ℕ) (n : ℕ) → Count p text n → Seq (One p) From text n
 count_from p [] n h = absurd (no_empty n (form_of n) h.bytes)
@@ -315,7 +325,7 @@ count_from p (b ∷ rest) n h = record {
   second = rest;
   value = b;
   parts = refl;
-  front = record { single = refl; passes = h.head b rest refl; fits = head_small b rest n h.bytes (form_of n) };
+  prefix = record { single = refl; passes = h.head b rest refl; fits = head_small b rest n h.bytes (form_of n) };
   back = record { is = h.bytes; most = h.most };
 }
 
@@ -333,8 +343,8 @@ pub record Text (text bytes : List ℕ) : Type 0 where
 
 string_to : (text bytes : List ℕ) → Seq (Count any) Chunk text bytes → Text text bytes
 string_to text bytes s =
-    let is : s.first ++ s.second ≡ compact (length bytes) ++ bytes = rw (s.front.bytes, s.back.same, s.back.len) refl in
-    record { same = s.parts ∙ is; most = omega (arith, s.back.len, s.front.most); fits = s.back.fits }
+    let is : s.first ++ s.second ≡ compact (length bytes) ++ bytes = rw (s.prefix.bytes, s.back.same, s.back.len) refl in
+    record { same = s.parts ∙ is; most = omega (arith, s.back.len, s.prefix.most); fits = s.back.fits }
 
 string_from : (text bytes : List ℕ) → Text text bytes → Seq (Count any) Chunk text bytes
 string_from text bytes h = record {
@@ -342,7 +352,7 @@ string_from text bytes h = record {
   second = bytes;
   value = length bytes;
   parts = h.same;
-  front = record { bytes = refl; most = h.most; head = λ b rest e. refl };
+  prefix = record { bytes = refl; most = h.most; head = λ b rest e. refl };
   back = record { same = refl; len = refl; fits = h.fits };
 }
 

@@ -1,7 +1,7 @@
--- A language says which lists are texts of which values: what was taken from the front, a text behind another, a value with no text.
+-- A language says which lists are texts of which values: what was taken from the prefix, a text behind another, a value with no text.
 use Rattle.std.proofs.Common.{◌≡◌, List, [], ◌∷◌, ◌++◌, refl, sym, inl, inr, ◌⊎◌, ℕ, zero, suc, ◌<◌, ◌≤◌, length, take, ap, arith}
 
--- a text was taken from the front
+-- a text was taken from the prefix
 pub record Taken {X A : Type 0} (L : List X → A → Type 0) (whole : List X) (a : A) (rest : List X) : Type 0 where
   pub text : List X
   pub parts : whole ≡ text ++ rest
@@ -18,7 +18,7 @@ pub record Seq {X A C : Type 0} (F : List X → A → Type 0) (K : A → List X 
   pub second : List X
   pub value : A
   pub parts : text ≡ first ++ second
-  pub front : F first value
+  pub prefix : F first value
   pub back : K value second c
 
 -- a value with no text
@@ -39,13 +39,13 @@ cuts (x ∷ a) b (y ∷ c) d e =
       | inr w ↦ inr (w.0, cc, w.2)
     ]
 
--- a longer front goes past the next item
-pub longer : {X : Type 0} (front rest : List X) (q : ℕ) → length front < q → q ≤ length (front ++ rest)
-    → (c : X) × (after : List X) × (within : List X) × (rest ≡ c ∷ after) × (take q (front ++ rest) ≡ front ++ c ∷ within)
+-- a longer prefix goes past the next item
+pub longer : {X : Type 0} (prefix rest : List X) (q : ℕ) → length prefix < q → q ≤ length (prefix ++ rest)
+    → (c : X) × (after : List X) × (within : List X) × (rest ≡ c ∷ after) × (take q (prefix ++ rest) ≡ prefix ++ c ∷ within)
 longer [] [] q lt le = absurd (omega arith)
 longer [] (c ∷ after) zero lt le = absurd (omega arith)
 longer [] (c ∷ after) (suc q) lt le = (c, after, take q after, refl, refl)
-longer {X} (x ∷ front) rest zero lt le = absurd (omega arith)
-longer {X} (x ∷ front) rest (suc q) lt le =
-    let w = longer front rest q (omega arith) (omega arith) in
+longer {X} (x ∷ prefix) rest zero lt le = absurd (omega arith)
+longer {X} (x ∷ prefix) rest (suc q) lt le =
+    let w = longer prefix rest q (omega arith) (omega arith) in
     (w.0, w.1, w.2, w.3, ap (λ (l : List X). x ∷ l) w.4)

@@ -23,14 +23,16 @@ is_bad bytes p b = record {
 abbrev End : Tx × List ℕ → Result Tx ℕ
 End x = cond (eqb (length x.1) 0) (Ok x.0) (Err (length x.1))
 
-bad_at : (bytes : List ℕ) (left : ℕ) → IsBytes bytes → (r : Result (Tx × List ℕ) ℕ) → transaction_at bytes ≡ r → (r >>= End) ≡ Err left → IsBadAt bytes (length bytes - left)
+bad_at : (bytes : List ℕ) (left : ℕ) → IsBytes bytes → (r : Result (Tx × List ℕ) ℕ) → transaction_at bytes ≡ r → (r >>= End) ≡ Err left
+    → IsBadAt bytes (length bytes - left)
 bad_at bytes left fits (Err d) is e =
     let is' : transaction_at bytes ≡ Err left = cc in
     is_bad bytes (length bytes - left) (bad_stopped Spelled transaction_at the_transaction bytes left fits is')
 bad_at bytes left fits (Ok x) is e =
     elim (chosen (eqb (length x.1) 0) (Ok x.0) (Err (length x.1)) (Err left) e) [
       | inl w ↦ absurd (ok_err x.0 left (sym w.1))
-      | inr w ↦ rw (sym (err_is (length x.1) left w.1)) (is_bad bytes (length bytes - length x.1) (bad_trailing Spelled transaction_at the_transaction bytes x.0 x.1 fits is (eqb-false (length x.1) 0 w.0)))
+      | inr w ↦ rw (sym (err_is (length x.1) left w.1))
+          (is_bad bytes (length bytes - length x.1) (bad_trailing Spelled transaction_at the_transaction bytes x.0 x.1 fits is (eqb-false (length x.1) 0 w.0)))
     ]
 
 found_at : (bytes : List ℕ) (tx : Tx) → IsBytes bytes → (r : Result (Tx × List ℕ) ℕ) → transaction_at bytes ≡ r → (r >>= End) ≡ Ok tx → Spells bytes tx

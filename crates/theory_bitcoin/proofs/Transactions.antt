@@ -36,18 +36,24 @@ Marked = Seq (One is_zero) AfterMarker
 a_marked : Exact Marked marked_at
 unfolding marked_at
 a_marked =
-    bind (One is_zero) AfterMarker (byte_where is_zero) (λ marker bytes. byte_where is_one bytes >>= λ flag. plain_at flag.1 >>= λ body. witnesses_at (length body.0.0) false body.1 >>= λ ws. Ok (whole_body body.0 ws.0, ws.1)) (one is_zero 0 refl (lit< tt))
-    (λ marker t l. bind (One is_one) AfterFlag (byte_where is_one) (λ flag bytes. plain_at bytes >>= λ body. witnesses_at (length body.0.0) false body.1 >>= λ ws. Ok (whole_body body.0 ws.0, ws.1)) (one is_one 1 refl (lit< tt))
+    bind (One is_zero) AfterMarker (byte_where is_zero)
+    (λ marker bytes. byte_where is_one bytes >>= λ flag. plain_at flag.1 >>= λ body. witnesses_at (length body.0.0) false body.1
+    >>= λ ws. Ok (whole_body body.0 ws.0, ws.1)) (one is_zero 0 refl (lit< tt))
+    (λ marker t l. bind (One is_one) AfterFlag (byte_where is_one)
+    (λ flag bytes. plain_at bytes >>= λ body. witnesses_at (length body.0.0) false body.1 >>= λ ws. Ok (whole_body body.0 ws.0, ws.1))
+    (one is_one 1 refl (lit< tt))
     (λ flag t l. bind Plain AfterBody plain_at (λ body bytes. witnesses_at (length body.0) false bytes >>= λ ws. Ok (whole_body body ws.0, ws.1)) the_body
-    (λ body t l. bind (Stacks (length body.0) false) (λ ws. Nothing (whole_body body ws)) (witnesses_at (length body.0) false) (λ ws bytes. Ok (whole_body body ws, bytes)) (the_stacks (length body.0) false)
+    (λ body t l. bind (Stacks (length body.0) false) (λ ws. Nothing (whole_body body ws)) (witnesses_at (length body.0) false)
+    (λ ws bytes. Ok (whole_body body ws, bytes)) (the_stacks (length body.0) false)
     (λ ws t l. pure (whole_body body ws)))))
 
 -- ---- which form it is
 
 starts_marked : Starts is_zero true Marked
-starts_marked = record { starts = λ text body s. (s.value, s.second, s.parts ∙ ap (λ (l : List ℕ). l ++ s.second) s.front.single, s.front.passes) }
+starts_marked = record { starts = λ text body s. (s.value, s.second, s.parts ∙ ap (λ (l : List ℕ). l ++ s.second) s.prefix.single, s.prefix.passes) }
 
-plain_byte : (b : ℕ) (rest : List ℕ) (body : Body) (t : Bool) → is_zero b ≡ t → plain_at (b ∷ rest ++ []) ≡ Ok (body, []) → (c : ℕ) × (more : List ℕ) × (b ∷ rest ≡ c ∷ more) × (is_zero c ≡ false)
+plain_byte : (b : ℕ) (rest : List ℕ) (body : Body) (t : Bool) → is_zero b ≡ t → plain_at (b ∷ rest ++ []) ≡ Ok (body, []) → (c : ℕ)
+    × (more : List ℕ) × (b ∷ rest ≡ c ∷ more) × (is_zero c ≡ false)
 unfolding plain_at inputs_at compact_at
 plain_byte b rest body true is e =
     let one : plain_at (b ∷ rest ++ []) ≡ Err (suc (length (rest ++ []))) = rw is refl in
@@ -85,9 +91,13 @@ TxSeq = Seq Word AfterVersion
 a_sequence : Exact TxSeq transaction_at
 unfolding transaction_at
 a_sequence =
-    bind Word AfterVersion (number_at w32) (λ version bytes. choose is_zero marked_at plain_at bytes >>= λ body. number_at w32 body.1 >>= λ lock. Ok (made version body.0 lock.0, lock.1)) (number w32 (2 ^ 32) wide32)
-    (λ version t l. bind Either (AfterEither version) (choose is_zero marked_at plain_at) (λ body bytes. number_at w32 bytes >>= λ lock. Ok (made version body lock.0, lock.1)) (either is_zero Marked Plain marked_at plain_at starts_marked starts_plain a_marked the_body)
-    (λ body t l. bind Word (λ lock. Nothing (made version body lock)) (number_at w32) (λ lock bytes. Ok (made version body lock, bytes)) (number w32 (2 ^ 32) wide32)
+    bind Word AfterVersion (number_at w32) (λ version bytes. choose is_zero marked_at plain_at bytes >>= λ body. number_at w32 body.1
+    >>= λ lock. Ok (made version body.0 lock.0, lock.1)) (number w32 (2 ^ 32) wide32)
+    (λ version t l. bind Either (AfterEither version) (choose is_zero marked_at plain_at)
+    (λ body bytes. number_at w32 bytes >>= λ lock. Ok (made version body lock.0, lock.1))
+    (either is_zero Marked Plain marked_at plain_at starts_marked starts_plain a_marked the_body)
+    (λ body t l. bind Word (λ lock. Nothing (made version body lock)) (number_at w32) (λ lock bytes. Ok (made version body lock, bytes))
+    (number w32 (2 ^ 32) wide32)
     (λ lock t l. pure (made version body lock))))
 
 -- ---- inputs and their witnesses
@@ -101,7 +111,8 @@ with_inputs : (xs : List TxIn) (ws : List (List (List ℕ))) → flat_map input_
 with_inputs [] ws = refl
 with_inputs (x ∷ xs) [] = refl
 with_inputs (x ∷ xs) (w ∷ ws) =
-    flat_map-cons input_bytes (record x { witness = w }) (with_witnesses xs ws) ∙ ap (λ (l : List ℕ). input_bytes x ++ l) (with_inputs xs ws) ∙ sym (flat_map-cons input_bytes x xs)
+    flat_map-cons input_bytes (record x { witness = w }) (with_witnesses xs ws)
+    ∙ ap (λ (l : List ℕ). input_bytes x ++ l) (with_inputs xs ws) ∙ sym (flat_map-cons input_bytes x xs)
 
 pub with_bytes : (xs : List TxIn) (ws : List (List (List ℕ))) → inputs_bytes (with_witnesses xs ws) ≡ inputs_bytes xs
 with_bytes xs ws = rw (with_length xs ws, with_inputs xs ws) refl
@@ -111,7 +122,8 @@ with_witness_bytes [] [] e = refl
 with_witness_bytes [] (w ∷ ws) e = absurd (omega (arith, e))
 with_witness_bytes (x ∷ xs) [] e = absurd (omega (arith, e))
 with_witness_bytes (x ∷ xs) (w ∷ ws) e =
-    flat_map-cons (λ (i : TxIn). witness_bytes i.witness) (record x { witness = w }) (with_witnesses xs ws) ∙ ap (λ (l : List ℕ). witness_bytes w ++ l) (with_witness_bytes xs ws (omega (arith, e))) ∙ sym (flat_map-cons witness_bytes w ws)
+    flat_map-cons (λ (i : TxIn). witness_bytes i.witness) (record x { witness = w }) (with_witnesses xs ws)
+    ∙ ap (λ (l : List ℕ). witness_bytes w ++ l) (with_witness_bytes xs ws (omega (arith, e))) ∙ sym (flat_map-cons witness_bytes w ws)
 
 with_marked : (xs : List TxIn) (ws : List (List (List ℕ))) → length ws ≡ length xs → is_marked (with_witnesses xs ws) ≡ any_filled ws
 with_marked [] [] e = refl
@@ -119,7 +131,8 @@ with_marked [] (w ∷ ws) e = absurd (omega (arith, e))
 with_marked (x ∷ xs) [] e = absurd (omega (arith, e))
 with_marked (x ∷ xs) (w ∷ ws) e = ap (λ b. is_filled w || b) (with_marked xs ws (omega (arith, e)))
 
-with_each : (xs : List TxIn) (ws : List (List (List ℕ))) → length ws ≡ length xs → AllByRecursion IsBare xs → AllByRecursion IsWitness ws → AllByRecursion IsInput (with_witnesses xs ws)
+with_each : (xs : List TxIn) (ws : List (List (List ℕ))) → length ws ≡ length xs → AllByRecursion IsBare xs → AllByRecursion IsWitness ws
+    → AllByRecursion IsInput (with_witnesses xs ws)
 with_each [] ws e h k = tt
 with_each (x ∷ xs) [] e h k = absurd (omega (arith, e))
 with_each (x ∷ xs) (w ∷ ws) e h k = (
@@ -135,14 +148,22 @@ bare_each : (xs : List TxIn) → AllByRecursion IsBare xs → AllByRecursion IsI
 bare_each [] h = tt
 bare_each (x ∷ xs) h =
     let bare = h.0.bare in (
-      record { prev = h.0.prev; script_sig = h.0.script_sig; sequence = h.0.sequence; items = rw bare (lit< tt); witness = subst (λ (w : List (List ℕ)). AllByRecursion IsString w) (sym bare) tt },
+      record {
+        prev = h.0.prev;
+        script_sig = h.0.script_sig;
+        sequence = h.0.sequence;
+        items = rw bare (lit< tt);
+        witness = subst
+            (λ (w : List (List ℕ)). AllByRecursion IsString w) (sym bare) tt;
+      },
       bare_each xs h.1,
     )
 
 -- ---- in the format's own words
 
 -- without marker
-plain_spells : (text : List ℕ) (version : ℕ) (body : Body) (lock : ℕ) → version < 2 ^ 32 → lock < 2 ^ 32 → IsBody body → text ≡ word version ++ (body_bytes body ++ (word lock ++ [])) → Spells text (made version body lock)
+plain_spells : (text : List ℕ) (version : ℕ) (body : Body) (lock : ℕ) → version < 2 ^ 32 → lock < 2 ^ 32 → IsBody body → text ≡ word version
+    ++ (body_bytes body ++ (word lock ++ [])) → Spells text (made version body lock)
 unfolding stripped
 plain_spells text version body lock v l h e =
     let bare = bare_marked body.0 h.inputs.each in
@@ -167,7 +188,8 @@ marked_text version lock xs os ws e =
     rw (with_bytes xs ws, with_witness_bytes xs ws e) (simp append_assoc)
 
 -- with marker
-marked_spells : (text : List ℕ) (version : ℕ) (body : Body) (ws : List (List (List ℕ))) (lock : ℕ) → version < 2 ^ 32 → lock < 2 ^ 32 → IsBody body → length ws ≡ length body.0 → AllByRecursion IsWitness ws → any_filled ws ≡ true
+marked_spells : (text : List ℕ) (version : ℕ) (body : Body) (ws : List (List (List ℕ))) (lock : ℕ) → version < 2 ^ 32 → lock < 2 ^ 32
+    → IsBody body → length ws ≡ length body.0 → AllByRecursion IsWitness ws → any_filled ws ≡ true
     → text ≡ word version ++ (0 ∷ (1 ∷ (body_bytes body ++ flat_map witness_bytes ws)) ++ word lock) → Spells text (made version (whole_body body ws) lock)
 marked_spells text version body ws lock v l h len each filled e =
     let n = with_length body.0 ws in
@@ -194,26 +216,29 @@ filled_of : (n : ℕ) (text : List ℕ) (ws : List (List (List ℕ))) → 0 < n 
 filled_of zero text ws some s = absurd (omega (arith, some))
 filled_of (suc n) text ws some s = filled_by n false text ws s
 
-spells_either : (text t : List ℕ) (version : ℕ) (body : Body) (lock : ℕ) → version < 2 ^ 32 → lock < 2 ^ 32 → Either t body → text ≡ word version ++ (t ++ (word lock ++ [])) → Spells text (made version body lock)
+spells_either : (text t : List ℕ) (version : ℕ) (body : Body) (lock : ℕ) → version < 2 ^ 32 → lock < 2 ^ 32 → Either t body → text
+    ≡ word version ++ (t ++ (word lock ++ [])) → Spells text (made version body lock)
 spells_either text t version body lock v l (inr h) e =
     plain_spells text version body lock v l h.fits (e ∙ ap (λ (u : List ℕ). word version ++ (u ++ (word lock ++ []))) h.same)
 spells_either text t version body lock v l (inl s) e =
-    let plain = s.back.back.front in
-    let stacks = s.back.back.back.front in
+    let plain = s.back.back.prefix in
+    let stacks = s.back.back.back.prefix in
     let ws = stacks_to (length s.back.back.value.0) false s.back.back.back.first s.back.back.back.value stacks in
-    let marker = zero_byte s.value s.front.passes in
-    let flag = one_byte s.back.value s.back.front.passes in
+    let marker = zero_byte s.value s.prefix.passes in
+    let flag = one_byte s.back.value s.back.prefix.passes in
     let parts : t ≡ 0 ∷ (1 ∷ (body_bytes s.back.back.value ++ flat_map witness_bytes s.back.back.back.value)) =
-    s.parts ∙ rw (s.front.single, marker, s.back.parts, s.back.front.single, flag, s.back.back.parts, plain.same, s.back.back.back.parts, ws.same, s.back.back.back.back.empty, append-nil (flat_map witness_bytes s.back.back.back.value)) refl in
+    s.parts ∙ rw (s.prefix.single, marker, s.back.parts, s.back.prefix.single, flag, s.back.back.parts, plain.same, s.back.back.back.parts, ws.same, s.back.back.back.back.empty, append-nil (flat_map witness_bytes s.back.back.back.value)) refl in
     let whole : text ≡ word version ++ (0 ∷ (1 ∷ (body_bytes s.back.back.value ++ flat_map witness_bytes s.back.back.back.value)) ++ word lock) =
     e ∙ ap (λ (u : List ℕ). word version ++ (u ++ (word lock ++ []))) parts ∙ ap (λ (u : List ℕ). word version ++ (0 ∷ (1 ∷ (body_bytes s.back.back.value ++ flat_map witness_bytes s.back.back.back.value)) ++ u)) (append-nil (word lock)) in
     subst (λ (b : Body). Spells text (made version b lock)) s.back.back.back.back.same
-    (marked_spells text version s.back.back.value s.back.back.back.value lock v l plain.fits ws.len ws.each (filled_of (length s.back.back.value.0) s.back.back.back.first s.back.back.back.value plain.fits.inputs.some stacks) whole)
+    (marked_spells text version s.back.back.value s.back.back.back.value lock v l plain.fits ws.len ws.each
+    (filled_of (length s.back.back.value.0) s.back.back.back.first s.back.back.back.value plain.fits.inputs.some stacks) whole)
 
 spells_to : (text : List ℕ) (tx : Tx) → TxSeq text tx → Spells text tx
 spells_to text tx s =
-    let e : text ≡ word s.value ++ (s.back.first ++ (word s.back.back.value ++ [])) = s.parts ∙ rw (s.front.bytes, s.back.parts, s.back.back.parts, s.back.back.front.bytes, s.back.back.back.empty) refl in
-    subst (Spells text) s.back.back.back.same (spells_either text s.back.first s.value s.back.value s.back.back.value s.front.most s.back.back.front.most s.back.front e)
+    let e : text ≡ word s.value ++ (s.back.first ++ (word s.back.back.value ++ [])) = s.parts ∙ rw (s.prefix.bytes, s.back.parts, s.back.back.parts, s.back.back.prefix.bytes, s.back.back.back.empty) refl in
+    subst (Spells text) s.back.back.back.same
+    (spells_either text s.back.first s.value s.back.value s.back.back.value s.prefix.most s.back.back.prefix.most s.back.prefix e)
 
 -- ---- from a spelling
 
@@ -254,25 +279,26 @@ unmarked_each (x ∷ xs) h k =
     (record { prev = k.0.prev; script_sig = k.0.script_sig; sequence = k.0.sequence; bare = e.0 }, unmarked_each xs e.1 k.1)
 
 -- a body between version and lock
-between : (text t : List ℕ) (tx : Tx) (body : Body) → IsTransaction tx → made tx.version body tx.lock ≡ tx → Either t body → text ≡ word tx.version ++ (t ++ word tx.lock) → TxSeq text tx
+between : (text t : List ℕ) (tx : Tx) (body : Body) → IsTransaction tx → made tx.version body tx.lock ≡ tx → Either t body → text
+    ≡ word tx.version ++ (t ++ word tx.lock) → TxSeq text tx
 between text t tx body fits same h e = record {
   first = word tx.version;
   second = t ++ word tx.lock;
   value = tx.version;
   parts = e;
-  front = record { bytes = refl; least = omega arith; most = fits.version };
+  prefix = record { bytes = refl; least = omega arith; most = fits.version };
   back = record {
     first = t;
     second = word tx.lock;
     value = body;
     parts = refl;
-    front = h;
+    prefix = h;
     back = record {
       first = word tx.lock;
       second = [];
       value = tx.lock;
       parts = sym (append-nil (word tx.lock));
-      front = record { bytes = refl; least = omega arith; most = fits.lock };
+      prefix = record { bytes = refl; least = omega arith; most = fits.lock };
       back = record { empty = refl; same = same };
     };
   };
@@ -283,14 +309,24 @@ unfolding stripped
 from_plain text tx fits bare e =
     let whole : stripped tx ≡ word tx.version ++ (body_bytes (tx.inputs, tx.outputs) ++ word tx.lock) = simp append_assoc in
     between text (body_bytes (tx.inputs, tx.outputs)) tx (tx.inputs, tx.outputs) fits refl
-    (inr (record { same = refl; fits = record { inputs = record { some = fits.some; few = fits.few_inputs; each = unmarked_each tx.inputs bare fits.inputs }; outputs = record { few = fits.few_outputs; each = fits.outputs } } }))
+    (inr (record {
+      same = refl;
+      fits = record {
+        inputs = record { some = fits.some; few = fits.few_inputs; each = unmarked_each tx.inputs bare fits.inputs };
+        outputs = record {
+          few = fits.few_outputs;
+          each = fits.outputs;
+        };
+      };
+    }))
     (e ∙ whole)
 
 -- marker, flag, body and witnesses
 abbrev marked_parts : List TxIn → List TxOut → List ℕ
 marked_parts xs os = 0 ∷ (1 ∷ (body_bytes (map bare_of xs, os) ++ flat_map witness_bytes (map witness_of xs)))
 
-is_marked_text : (xs : List TxIn) (os : List TxOut) → AllByRecursion IsInput xs → 0 < length xs → length xs < 2 ^ 64 → AreOutputs os → is_marked xs ≡ true → Marked (marked_parts xs os) (with_witnesses (map bare_of xs) (map witness_of xs), os)
+is_marked_text : (xs : List TxIn) (os : List TxOut) → AllByRecursion IsInput xs → 0 < length xs → length xs < 2 ^ 64 → AreOutputs os
+    → is_marked xs ≡ true → Marked (marked_parts xs os) (with_witnesses (map bare_of xs) (map witness_of xs), os)
 is_marked_text xs os each some few outputs h =
     let n = bares_length xs in
     let filled : any_filled (map witness_of xs) ≡ true = sym (with_marked (map bare_of xs) (map witness_of xs) (as_many xs)) ∙ ap is_marked (together xs) ∙ h in
@@ -299,25 +335,31 @@ is_marked_text xs os each some few outputs h =
       second = 1 ∷ (body_bytes (map bare_of xs, os) ++ flat_map witness_bytes (map witness_of xs));
       value = 0;
       parts = refl;
-      front = record { single = refl; passes = refl; fits = lit< tt };
+      prefix = record { single = refl; passes = refl; fits = lit< tt };
       back = record {
         first = 1 ∷ [];
         second = body_bytes (map bare_of xs, os) ++ flat_map witness_bytes (map witness_of xs);
         value = 1;
         parts = refl;
-        front = record { single = refl; passes = refl; fits = lit< tt };
+        prefix = record { single = refl; passes = refl; fits = lit< tt };
         back = record {
           first = body_bytes (map bare_of xs, os);
           second = flat_map witness_bytes (map witness_of xs);
           value = (map bare_of xs, os);
           parts = refl;
-          front = record { same = refl; fits = record { inputs = record { some = omega (arith, n, some); few = omega (arith, n, few); each = bares_each xs each }; outputs = outputs } };
+          prefix = record {
+            same = refl;
+            fits = record {
+              inputs = record { some = omega (arith, n, some); few = omega (arith, n, few); each = bares_each xs each };
+              outputs = outputs;
+            };
+          };
           back = record {
             first = flat_map witness_bytes (map witness_of xs);
             second = [];
             value = map witness_of xs;
             parts = sym (append-nil (flat_map witness_bytes (map witness_of xs)));
-            front = stacks_from (length (map bare_of xs)) false (map witness_of xs) (as_many xs) (witnesses_each xs each) filled;
+            prefix = stacks_from (length (map bare_of xs)) false (map witness_of xs) (as_many xs) (witnesses_each xs each) filled;
             back = record { empty = refl; same = refl };
           };
         };

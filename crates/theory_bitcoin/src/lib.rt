@@ -1,4 +1,5 @@
-//! What follows of the bytes of transactions and labels: each theorem is the contract of a function that does nothing.
+//! Theorems on the bytes of transactions and labels: bytes spell at most one, reading finds it, and what is hashed
+//! fixes it. Each is the contract of a function that does nothing.
 #![tactic(auto)]
 
 ghost use Rattle.spec_bitcoin.specs.Statements.{OneTransaction, NoSpellingBegins, SpelledIsRead, ReadIsSpelled, FaultIsFirst, OneLabel};
@@ -9,7 +10,7 @@ pub fn one_transaction()
     ensures { OneTransaction }
 {}
 
-/// No spelling is a proper front of another.
+/// No spelling is a proper prefix of another.
 pub fn no_spelling_begins()
     ensures { NoSpellingBegins }
 {}
@@ -24,7 +25,7 @@ pub fn read_is_spelled()
     ensures { ReadIsSpelled }
 {}
 
-/// Where nothing is read, the place is the end of the longest front that begins a spelling.
+/// Where nothing is read, the place is the end of the longest prefix that begins a spelling.
 pub fn fault_is_first()
     ensures { FaultIsFirst }
 {}

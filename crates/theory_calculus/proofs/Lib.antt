@@ -14,4 +14,4 @@ pub mod Standing
 pub mod Totals
 pub mod OneBalance
 pub mod Kept
-mod Worked
+mod Vectors

@@ -1,4 +1,5 @@
-//! What follows of the calculus alone, without any transaction: each theorem is the contract of a function that does nothing.
+//! Theorems on the calculus alone: every enabled step is offered, names stay apart, and steps keep money. Each is the
+//! contract of a function that does nothing.
 #![tactic(auto)]
 
 ghost use Rattle.theory_calculus.specs.Offered.{EveryEnabledIsOffered, OffersStandInOrder};

@@ -9,7 +9,7 @@ use Rattle.spec_tool.specs.Commands.{Command, check, play, plan, make, psbt_of, 
 use Rattle.spec_tool.specs.Reads.{Asked, Text, text_at, fits, all_fit}
 use Rattle.spec_tool.specs.Sizes.{most_audit_bytes}
 use Rattle.theory_commands.specs.Commands.{ShowsCommand, CommandsShow}
-use Rattle.theory_lines.specs.Statements.{IsWithin}
+use Rattle.theory_plan_text.specs.Statements.{IsWithin}
 use Rattle.theory_commands.proofs.ShownAudit.{audit_is_shown}
 use Rattle.theory_commands.proofs.ShownAuto.{auto_is_shown}
 use Rattle.theory_commands.proofs.ShownFiles.{check_shown, file_shown, files_shown}

@@ -9,7 +9,7 @@ use Rattle.spec_run.specs.declared.event.Event.{Event}
 use Rattle.spec_run.specs.declared.event.Run.{Run}
 use Rattle.spec_run.specs.Compiled.{compiled_instance, instance_of, is_complete}
 use Rattle.spec_run.specs.Conditions.{HashesBytes}
-use Rattle.spec_run.specs.Draft.{Halt, Collided, Guessed}
+use Rattle.spec_run.specs.Pending.{Halt, Collided, Guessed}
 use Rattle.spec_run.specs.Event.{opening_collision}
 use Rattle.spec_run.specs.Setup.{Setup}
 use Rattle.spec_run.specs.Statements.{IsRun}
@@ -20,7 +20,7 @@ use Rattle.spec_tool.specs.Commands.{setup_of, ending_status}
 use Rattle.spec_tool.specs.Reads.{Text}
 use Rattle.theory_text.proofs.Lines.ValidRuns.{run_file_is}
 use Rattle.theory_text.specs.RunFiles.{IsReadRun}
-use Rattle.theory_report.proofs.ReadRuns.{IsKnownRun, run_known}
+use Rattle.theory_play_text.proofs.ReadRuns.{IsKnownRun, run_known}
 use Rattle.theory_tool.specs.Runs.{IsUnhalted}
 use Rattle.theory_commands.specs.ContractFiles.{HoldsContract}
 use Rattle.theory_commands.specs.RunFiles.{HoldsRun}

@@ -14,8 +14,8 @@ use Rattle.spec_tool.specs.Commands.{Printed, setup_of}
 use Rattle.spec_tool.specs.Reads.{Text, text_at}
 use Rattle.theory_audit.specs.Audited.{HaltsAs}
 use Rattle.theory_audit.proofs.Audited.{audits_find}
-use Rattle.theory_lines.proofs.Audits.{audit_back}
-use Rattle.theory_lines.specs.Statements.{IsWithin}
+use Rattle.theory_plan_text.proofs.Audits.{audit_back}
+use Rattle.theory_plan_text.specs.Statements.{IsWithin}
 use Rattle.theory_commands.specs.ContractFiles.{HoldsContract}
 use Rattle.theory_commands.specs.Files.{ShowsPlayed}
 use Rattle.theory_commands.specs.RunFiles.{HoldsRun}

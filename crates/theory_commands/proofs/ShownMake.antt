@@ -2,7 +2,7 @@
 use Rattle.std.proofs.Common.{ℕ, List, length}
 use Rattle.spec_run.specs.Conditions.{HashesBytes}
 use Rattle.spec_run.specs.Translation.{translated, last_configuration, last_world}
-use Rattle.spec_text.specs.Generator.{made_run}
+use Rattle.spec_text.specs.Generator.{generated_run}
 use Rattle.spec_text.specs.PlanText.{counts_text, step_count, make_text}
 use Rattle.spec_text.specs.Played.{ending}
 use Rattle.spec_tool.specs.Commands.{make_answer}
@@ -11,16 +11,16 @@ use Rattle.theory_generator.proofs.RunTexts.{run_taken}
 use Rattle.theory_generator.proofs.RunsPlay.{run_plays}
 use Rattle.theory_run.proofs.Simulated.{simulation}
 use Rattle.theory_commands.specs.Files.{IfWhole}
-use Rattle.theory_commands.specs.Shown.Make.{made_setup, Counts, ShowsMake}
+use Rattle.theory_commands.specs.Shown.Make.{generated_setup, Counts, ShowsMake}
 use Rattle.theory_commands.proofs.Files.{unhalted, text_halted, text_whole}
 
 module _ (hash : List ℕ → List ℕ) (number size : ℕ) where
-  counts_shown : IfWhole (made_setup hash number size) (made_run number size).events (make_answer hash number size)
-      (Counts (made_setup hash number size) (made_run number size).events (make_answer hash number size))
+  counts_shown : IfWhole (generated_setup hash number size) (generated_run number size).events (make_answer hash number size)
+      (Counts (generated_setup hash number size) (generated_run number size).events (make_answer hash number size))
   unfolding make_text
   counts_shown =
-      let s = made_setup hash number size in
-      let es = (made_run number size).events in
+      let s = generated_setup hash number size in
+      let es = (generated_run number size).events in
       let text = counts_text (length es) (step_count (translated s es)) (last_configuration s es) (last_world s es) in
       record { whole = λ u. text_whole (ending s es) text (unhalted s es u); halted = text_halted (ending s es) text }
 
@@ -29,6 +29,6 @@ make_shown hash bytes number size few = record {
   contract = contract_taken number size few;
   run = run_taken number size few;
   is_run = λ opens. run_plays hash bytes number size few opens;
-  simulates = λ opens. simulation (made_setup hash number size) (made_run number size).events (run_plays hash bytes number size few opens);
+  simulates = λ opens. simulation (generated_setup hash number size) (generated_run number size).events (run_plays hash bytes number size few opens);
   counts = counts_shown hash number size;
 }

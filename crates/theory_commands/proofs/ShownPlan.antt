@@ -20,7 +20,7 @@ use Rattle.theory_psbt.specs.Listed.{SignersForEach}
 use Rattle.theory_script.specs.Listed.{PathsAreListed, ScriptsAreListed, PathsInOrder}
 use Rattle.theory_script.specs.Money.{MoneyIsKept}
 use Rattle.theory_tool.specs.Runs.{IsUnhalted}
-use Rattle.theory_lines.proofs.Plans.{plan_back}
+use Rattle.theory_plan_text.proofs.Plans.{plan_back}
 use Rattle.theory_weights.specs.Bounds.{WeightsAreBounds}
 use Rattle.theory_weights.specs.Runs.{WeightsAddUp, TotalsBoundRuns}
 use Rattle.theory_weights.specs.Sizes.{WeightsBySizes}

@@ -20,8 +20,8 @@ use Rattle.spec_tool.specs.PsbtText.{has_transaction, no_path_line, not_compiled
 use Rattle.spec_tool.specs.PsbtText.{listed_psbt}
 use Rattle.spec_tool.specs.Reads.{Text, text_at}
 use Rattle.spec_tool.specs.Sizes.{most_psbt_bytes}
-use Rattle.theory_listed.specs.InRuns.{IsReadBack}
-use Rattle.theory_listed.proofs.InRuns.{listed_read}
+use Rattle.theory_psbt_listed.specs.InRuns.{IsReadBack}
+use Rattle.theory_psbt_listed.proofs.InRuns.{listed_read}
 use Rattle.theory_psbt.proofs.Kept.{spelled_is_psbt}
 use Rattle.theory_psbt.specs.Listed.{SignersForEach}
 use Rattle.theory_tool.specs.Runs.{IsUnhalted}
@@ -40,7 +40,7 @@ small_is text few = grind (arith, nat_tests, few)
 
 -- what is read back is printed
 prints_listed : (s : Setup) (w : World) (instance : Instance) (which : Which) (l : Listed) (text : List ℕ)
-    → length l.signers ≡ length l.draft.spends → IsReadBack s w l text → PrintsPsbt s w l (prints 0 text)
+    → length l.signers ≡ length l.pending.spends → IsReadBack s w l text → PrintsPsbt s w l (prints 0 text)
 prints_listed s w instance which l text count b =
     let holds : IsPsbtFile text (listed_psbt s.hash w.book l) = (psbt_files_read.read (Some text) (listed_psbt s.hash w.book l)).0 b.read in
     record {
@@ -49,7 +49,7 @@ prints_listed s w instance which l text count b =
       psbt = listed_psbt s.hash w.book l;
       holds = holds;
       tx = refl;
-      each_input = input_count s.hash w.book l.draft l.draft.spends l.signers count;
+      each_input = input_count s.hash w.book l.pending l.pending.spends l.signers count;
       inputs = output_right s w l;
       signatures = signed_right s w l (spelled_is_psbt holds.bytes (listed_psbt s.hash w.book l) holds.spelled);
     }

@@ -100,21 +100,21 @@ module _ (hash : List ℕ → List ℕ) (book : List Pair) (digest : List ℕ) w
 -- ---- inputs
 
 -- what an input is of
-pub record IsInput (hash : List ℕ → List ℕ) (book : List Pair) (draft : Unsigned) (spends : List Spent) (signers : List (List Label))
+pub record IsInput (hash : List ℕ → List ℕ) (book : List Pair) (pending : Unsigned) (spends : List Spent) (signers : List (List Label))
     (k : ℕ) (said : PsbtInput) : Type 0 where
   pub spent : Spent
   pub spends_it : slice_get spends k ≡ Some spent
   pub labels : List Label
   pub signs_it : slice_get signers k ≡ Some labels
-  pub is : said ≡ signed_input hash book draft spent labels
+  pub is : said ≡ signed_input hash book pending spent labels
 
-module _ (hash : List ℕ → List ℕ) (book : List Pair) (draft : Unsigned) where
+module _ (hash : List ℕ → List ℕ) (book : List Pair) (pending : Unsigned) where
   pub input_is : (spends : List Spent) (signers : List (List Label)) (k : ℕ) (said : PsbtInput)
-      → slice_get (signed_inputs hash book draft spends signers) k ≡ Some said → IsInput hash book draft spends signers k said
+      → slice_get (signed_inputs hash book pending spends signers) k ≡ Some said → IsInput hash book pending spends signers k said
   input_is [] signers k said e = absurd (cc)
   input_is (spent ∷ spends) [] k said e = absurd (cc)
   input_is (spent ∷ spends) (labels ∷ signers) zero said e =
-      let same : signed_input hash book draft spent labels ≡ said = cc in
+      let same : signed_input hash book pending spent labels ≡ said = cc in
       record { spent = spent; spends_it = refl; labels = labels; signs_it = refl; is = sym same }
   input_is (spent ∷ spends) (labels ∷ signers) (suc k) said e =
       let r = input_is spends signers k said e in
@@ -122,17 +122,17 @@ module _ (hash : List ℕ → List ℕ) (book : List Pair) (draft : Unsigned) wh
 
   pub input_there : (spends : List Spent) (signers : List (List Label)) (k : ℕ) (spent : Spent) (labels : List Label)
       → slice_get spends k ≡ Some spent → slice_get signers k ≡ Some labels
-      → slice_get (signed_inputs hash book draft spends signers) k ≡ Some (signed_input hash book draft spent labels)
+      → slice_get (signed_inputs hash book pending spends signers) k ≡ Some (signed_input hash book pending spent labels)
   input_there [] signers k spent labels e f = absurd (cc)
   input_there (x ∷ spends) [] k spent labels e f = absurd (cc)
   input_there (x ∷ spends) (ls ∷ signers) zero spent labels e f =
       let a : x ≡ spent = cc in
       let b : ls ≡ labels = cc in
-      λ i. Some (signed_input hash book draft (a i) (b i))
+      λ i. Some (signed_input hash book pending (a i) (b i))
   input_there (x ∷ spends) (ls ∷ signers) (suc k) spent labels e f = input_there spends signers k spent labels e f
 
   pub input_count : (spends : List Spent) (signers : List (List Label)) → length signers ≡ length spends
-      → length (signed_inputs hash book draft spends signers) ≡ length spends
+      → length (signed_inputs hash book pending spends signers) ≡ length spends
   input_count [] signers e = refl
   input_count (spent ∷ spends) [] e = absurd (cc)
   input_count (spent ∷ spends) (labels ∷ signers) e =
@@ -145,8 +145,8 @@ module _ (s : Setup) (w : World) (l : Listed) where
   pub signed_right : is_psbt (listed_psbt s.hash w.book l) ≡ true → AreSigned s w l (listed_psbt s.hash w.book l)
   signed_right ordered = record {
     none_added = λ input signature h.
-        let r = input_is s.hash w.book l.draft l.draft.spends l.signers input h.said h.there in
-        let digest = digest_of_spent s.hash (tx_of l.draft) r.spent in
+        let r = input_is s.hash w.book l.pending l.pending.spends l.signers input h.said h.there in
+        let digest = digest_of_spent s.hash (tx_of l.pending) r.spent in
         let inside = subst (λ (x : PsbtInput). Is_in signature x.partial) r.is (in_from_contains h.said.partial signature h.has) in
         let x = there_in s.hash w.book digest r.labels signature inside in
         record {
@@ -164,27 +164,27 @@ module _ (s : Setup) (w : World) (l : Listed) where
           is = x.3;
         };
     none_left_out = λ input label digest h.
-        let is = in_there s.hash w.book (digest_of_spent s.hash (tx_of l.draft) h.spent) h.labels label
+        let is = in_there s.hash w.book (digest_of_spent s.hash (tx_of l.pending) h.spent) h.labels label
         (in_from_contains h.labels label h.signer)
         (subst (λ (d : List ℕ). has_signed w.book (key_of s.hash label) d ≡ true) h.digest_is h.signed) in
-        let said = signed_input s.hash w.book l.draft h.spent h.labels in
+        let said = signed_input s.hash w.book l.pending h.spent h.labels in
         record {
           said = said;
-          there = input_there s.hash w.book l.draft l.draft.spends l.signers input h.spent h.labels h.spends h.signers;
+          there = input_there s.hash w.book l.pending l.pending.spends l.signers input h.spent h.labels h.spends h.signers;
           has = subst (λ (d : List ℕ). Contains said.partial (signature_by s label d)) (sym h.digest_is)
-              (contains_from_in said.partial (signature_by s label (digest_of_spent s.hash (tx_of l.draft) h.spent)) is);
+              (contains_from_in said.partial (signature_by s label (digest_of_spent s.hash (tx_of l.pending) h.spent)) is);
         };
     in_order = ordered;
   }
 
-  pub output_right : (input : ℕ) (spent : Spent) (said : PsbtInput) → slice_get l.draft.spends input ≡ Some spent
+  pub output_right : (input : ℕ) (spent : Spent) (said : PsbtInput) → slice_get l.pending.spends input ≡ Some spent
       → slice_get (listed_psbt s.hash w.book l).inputs input ≡ Some said → SpendsOutput s spent said
   output_right input spent said e f =
-      let r = input_is s.hash w.book l.draft l.draft.spends l.signers input said f in
+      let r = input_is s.hash w.book l.pending l.pending.spends l.signers input said f in
       let found : Some r.spent ≡ Some spent = sym r.spends_it ∙ e in
       let same : r.spent ≡ spent = cc in
-      let is : said ≡ signed_input s.hash w.book l.draft spent r.labels =
-      r.is ∙ ap (λ (x : Spent). signed_input s.hash w.book l.draft x r.labels) same in
-      let here : SpendsOutput s spent (signed_input s.hash w.book l.draft spent r.labels) =
+      let is : said ≡ signed_input s.hash w.book l.pending spent r.labels =
+      r.is ∙ ap (λ (x : Spent). signed_input s.hash w.book l.pending x r.labels) same in
+      let here : SpendsOutput s spent (signed_input s.hash w.book l.pending spent r.labels) =
       record { output = refl; all = refl; script = refl; witness = refl } in
       subst (SpendsOutput s spent) (sym is) here

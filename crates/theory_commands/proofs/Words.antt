@@ -10,7 +10,7 @@ use Rattle.spec_tool.specs.declared.which.Which.{Which}
 use Rattle.spec_tool.specs.Commands.{Command, check, play, plan, make, psbt_of, psbt_shown, psbt_joined, weigh, audit, auto, most_size}
 use Rattle.spec_tool.specs.Commands.{check_words, play_words, plan_words, make_words, which_of, psbt_words, weigh_words, audit_words}
 use Rattle.spec_tool.specs.Commands.{auto_words, command_of}
-use Rattle.theory_commands.specs.Commands.{MadeSizesAreTaken}
+use Rattle.theory_commands.specs.Commands.{GeneratedSizesAreTaken}
 
 -- the command is no `make`, or one of a size that it takes
 abbrev IsSized : Option Command → Type 0
@@ -118,5 +118,5 @@ sized (word ∷ words) =
     (either (bytes_eq word (codes "audit")) _ _ (audit_sized words)
     (either (bytes_eq word (codes "auto")) _ _ (auto_sized words) tt)))))))
 
-pub sizes_taken : MadeSizesAreTaken
+pub sizes_taken : GeneratedSizesAreTaken
 sizes_taken words number size e = subst IsSized e (sized words)

@@ -2,7 +2,7 @@
 use Rattle.std.specs.Prelude.{◌≡◌, ℕ, List, [], ◌∷◌, ◌⊎◌, ◌↔◌, drop, None}
 use Rattle.spec_terms.specs.Advert.{Advert}
 use Rattle.spec_run.specs.declared.event.Run.{Run}
-use Rattle.spec_text.specs.Generator.{made_run}
+use Rattle.spec_text.specs.Generator.{generated_run}
 use Rattle.spec_tool.specs.declared.rule.Rule.{Rule}
 use Rattle.spec_tool.specs.Answers.{text_answer, size_of}
 use Rattle.spec_tool.specs.Commands.{Command, check, play, plan, make, psbt_of, psbt_shown, psbt_joined, weigh, audit, auto, setup_of}
@@ -15,7 +15,7 @@ use Rattle.theory_commands.specs.ContractFiles.{HoldsContract, Refusal, IsRefuse
 use Rattle.theory_commands.specs.PsbtFiles.{HoldsPsbt, PsbtRefusal, IsRefusedPsbt}
 use Rattle.theory_commands.specs.RunFiles.{HoldsRun, RunRefusal, IsRefusedRun}
 use Rattle.theory_commands.specs.Strategies.{HoldsRules, StrategyRefusal, IsRefusedStrategy}
-use Rattle.theory_commands.specs.Shown.Make.{made_setup}
+use Rattle.theory_commands.specs.Shown.Make.{generated_setup}
 
 -- ---- contract files
 
@@ -43,7 +43,7 @@ abbrev pub PlaysHeld : (List ℕ → List ℕ) → OfRun → Command → List Te
 PlaysHeld hash claim (check contract) texts = ⊥
 PlaysHeld hash claim (play run contracts) texts = RunsHeld hash claim (text_at texts 0) (drop 1 texts)
 PlaysHeld hash claim (plan run contract) texts = RunsHeld hash claim (text_at texts 0) (text_at texts 1 ∷ [])
-PlaysHeld hash claim (make number size) texts = claim (made_setup hash number size) (made_run number size).events
+PlaysHeld hash claim (make number size) texts = claim (generated_setup hash number size) (generated_run number size).events
 PlaysHeld hash claim (psbt_of run contract which) texts = RunsHeld hash claim (text_at texts 0) (text_at texts 1 ∷ [])
 PlaysHeld hash claim (psbt_shown file) texts = ⊥
 PlaysHeld hash claim (psbt_joined first second) texts = ⊥

@@ -35,5 +35,5 @@ CommandsShow = (hash : List ℕ → List ℕ) → HashesBytes hash → (command 
     → all_fit (files_of command) texts ≡ true → ShowsCommand hash command texts (text_answer hash command texts)
 
 -- the size of `make` in words that are a command is one that it takes
-abbrev pub MadeSizesAreTaken : Type 0
-MadeSizesAreTaken = (words : List (List ℕ)) (number size : ℕ) → command_of words ≡ Some (make number size) → size ≤ most_size
+abbrev pub GeneratedSizesAreTaken : Type 0
+GeneratedSizesAreTaken = (words : List (List ℕ)) (number size : ℕ) → command_of words ≡ Some (make number size) → size ≤ most_size

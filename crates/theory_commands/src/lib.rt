@@ -1,9 +1,9 @@
-//! What follows of the commands, from the texts of their files to what they print: each theorem is
-//! the contract of a function that does nothing.
+//! Theorems on whole commands: which status comes of which files, and what the text of each command shows. `run_tool`
+//! has them in its clause. Each is the contract of a function that does nothing.
 #![tactic(auto)]
 
 ghost use Rattle.theory_commands.specs.Causes.{CausesInFiles};
-ghost use Rattle.theory_commands.specs.Commands.{CommandsShow, MadeSizesAreTaken};
+ghost use Rattle.theory_commands.specs.Commands.{CommandsShow, GeneratedSizesAreTaken};
 ghost use Rattle.theory_commands.specs.ContractFiles.{ContractsAreRead};
 ghost use Rattle.theory_commands.specs.PsbtFiles.{PsbtFilesAreRead};
 ghost use Rattle.theory_commands.specs.RunFiles.{RunFilesAreRead};
@@ -89,7 +89,7 @@ pub fn causes_are_in_files()
     ensures { CausesInFiles }
 {}
 
-/// The size of `make` in words that are a command is one for which the theorems on made runs hold.
-pub fn made_sizes_are_taken()
-    ensures { MadeSizesAreTaken }
+/// The size of `make` in words that are a command is one for which the theorems on generated runs hold.
+pub fn generated_sizes_are_taken()
+    ensures { GeneratedSizesAreTaken }
 {}

@@ -20,7 +20,8 @@ affine_first i t x y h =
     let three : Same field_prime ((x * (t.z * t.z)) * (z * z)) (x * (1 * 1)) =
     same_trans (same_of field_prime ((x * (t.z * t.z)) * (z * z)) (x * ((t.z * z) * (t.z * z))) (omega arith))
     (same_mul (same_refl field_prime x) (same_mul one one)) in
-    same_eq (same_trans two (same_trans three (same_of field_prime (x * (1 * 1)) x (omega arith)))) (times_below field_prime t.x (times field_prime z z) (omega arith)) h.x_below
+    same_eq (same_trans two (same_trans three (same_of field_prime (x * (1 * 1)) x (omega arith))))
+    (times_below field_prime t.x (times field_prime z z) (omega arith)) h.x_below
 
 pub affine_second : Inverts field_prime → (t : Triple) (x y : ℕ) → StandsAt t x y
     → let z : ℕ = inverse field_prime t.z in times field_prime t.y (times field_prime z (times field_prime z z)) ≡ y
@@ -33,7 +34,8 @@ affine_second i t x y h =
     let three : Same field_prime ((y * (t.z * t.z * t.z)) * (z * (z * z))) (y * (1 * (1 * 1))) =
     same_trans (same_of field_prime ((y * (t.z * t.z * t.z)) * (z * (z * z))) (y * ((t.z * z) * ((t.z * z) * (t.z * z)))) (omega arith))
     (same_mul (same_refl field_prime y) (same_mul one (same_mul one one))) in
-    same_eq (same_trans two (same_trans three (same_of field_prime (y * (1 * (1 * 1))) y (omega arith)))) (times_below field_prime t.y (times field_prime z (times field_prime z z)) (omega arith)) h.y_below
+    same_eq (same_trans two (same_trans three (same_of field_prime (y * (1 * (1 * 1))) y (omega arith))))
+    (times_below field_prime t.y (times field_prime z (times field_prime z z)) (omega arith)) h.y_below
 
 -- the bit j of k is taken in: what stands above it is half of what stands at it
 above_bit : (k j : ℕ) → k / 2 ^ j / 2 ≡ k / 2 ^ (j + 1)

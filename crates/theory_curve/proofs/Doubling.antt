@@ -13,7 +13,8 @@ slope_is m x y z s bx by bz bm hx hy hm hz hs =
     let three : Same m ((3 * (x * x)) * (z * z * (z * z))) ((s * (2 * y)) * (z * z * (z * z))) = same_mul (same_sym hs) (same_refl m _) in
     let four : (s * (2 * y)) * (z * z * (z * z)) ≡ s * (2 * ((y * (z * z * z)) * z)) = omega arith in
     let five : Same m (s * (2 * ((y * (z * z * z)) * z))) (s * (2 * (by * z))) = same_mul (same_refl m s) (same_mul (same_refl m 2) (same_mul (same_sym hy) (same_refl m z))) in
-    same_trans hm (same_trans one (same_trans (same_of m _ _ two) (same_trans three (same_trans (same_of m _ _ four) (same_trans five (same_mul (same_refl m s) (same_sym hz)))))))
+    same_trans hm (same_trans one (same_trans (same_of m _ _ two)
+    (same_trans three (same_trans (same_of m _ _ four) (same_trans five (same_mul (same_refl m s) (same_sym hz)))))))
 
 -- S is x times the square of the new Z
 pub middle_is : (m x y z bx by bz bs : ℕ)

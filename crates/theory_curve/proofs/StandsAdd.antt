@@ -12,7 +12,8 @@ use Rattle.theory_curve.proofs.Added.{add_any}
 
 -- ---- the cases of the definition
 
-add_apart : (x y u v : ℕ) → (x ≡ u → ⊥) → add (at x y) (at u v) ≡ third (times field_prime (minus field_prime v y) (inverse field_prime (minus field_prime u x))) x y u
+add_apart : (x y u v : ℕ) → (x ≡ u → ⊥) → add (at x y) (at u v)
+    ≡ third (times field_prime (minus field_prime v y) (inverse field_prime (minus field_prime u x))) x y u
 unfolding add
 add_apart x y u v h = rw (ne_eqb x u h, add)
 
@@ -65,7 +66,9 @@ rise_none i t x y v h b e =
     let zzz : ℕ = times field_prime t.z zz in
     let flat : times field_prime v zzz ≡ t.y = equal_of field_prime (times field_prime v zzz) t.y (times_below field_prime v zzz (omega arith)) h.t_below e in
     let both : Same field_prime (y * zzz) (v * zzz) =
-    same_trans (same_mul (same_refl field_prime y) (same_trans (times_more field_prime t.z zz (t.z * t.z) (times_is field_prime t.z t.z)) (same_of field_prime (t.z * (t.z * t.z)) (t.z * t.z * t.z) (omega arith))))
+    same_trans (same_mul (same_refl field_prime y)
+    (same_trans (times_more field_prime t.z zz (t.z * t.z) (times_is field_prime t.z t.z))
+    (same_of field_prime (t.z * (t.z * t.z)) (t.z * t.z * t.z) (omega arith))))
     (same_trans (record { is = sym h.second }) (same_trans (same_of field_prime _ _ (sym flat)) (times_is field_prime v zzz))) in
     same_eq (same_divide i zzz (cube_positive i t.z h.nonzero) both) h.y_below b
 
@@ -74,14 +77,17 @@ rise_same t x y v h e =
     let zz : ℕ = times field_prime t.z t.z in
     let zzz : ℕ = times field_prime t.z zz in
     let flat : Same field_prime (times field_prime v zzz) t.y =
-    same_trans (times_more field_prime v zzz (t.z * t.z * t.z) (same_trans (times_more field_prime t.z zz (t.z * t.z) (times_is field_prime t.z t.z)) (same_of field_prime (t.z * (t.z * t.z)) (t.z * t.z * t.z) (omega arith))))
+    same_trans (times_more field_prime v zzz (t.z * t.z * t.z)
+    (same_trans (times_more field_prime t.z zz (t.z * t.z) (times_is field_prime t.z t.z))
+    (same_of field_prime (t.z * (t.z * t.z)) (t.z * t.z * t.z) (omega arith))))
     (same_trans (same_of field_prime _ _ (ap (λ k. k * (t.z * t.z * t.z)) (sym e))) (record { is = sym h.second })) in
     let same : times field_prime v zzz ≡ t.y = same_eq flat (times_below field_prime v zzz (omega arith)) h.t_below in
     ap (λ k. minus field_prime k t.y) same ∙ minus_self field_prime t.y h.t_below
 
 -- ---- the sum, where H is not 0
 
-pub added_apart : Inverts field_prime → (t : Triple) (x y u v : ℕ) → StandsAt t x y → u < field_prime → 0 < run t u → Stands (added t u v) (add (at x y) (at u v))
+pub added_apart : Inverts field_prime → (t : Triple) (x y u v : ℕ) → StandsAt t x y → u < field_prime → 0 < run t u
+    → Stands (added t u v) (add (at x y) (at u v))
 added_apart i t x y u v h b p =
     let pos : 0 < field_prime = omega arith in
     let apart : x ≡ u → ⊥ = λ e. omega (arith, p, run_same t x y u h e) in
@@ -104,12 +110,14 @@ added_apart i t x y u v h b p =
     })
 
 -- where H is 0 and R is not
-pub added_opposite : Inverts field_prime → (t : Triple) (x y u v : ℕ) → StandsAt t x y → u < field_prime → run t u ≡ 0 → 0 < rise t v → add (at x y) (at u v) ≡ infinity
+pub added_opposite : Inverts field_prime → (t : Triple) (x y u v : ℕ) → StandsAt t x y → u < field_prime → run t u ≡ 0 → 0 < rise t v
+    → add (at x y) (at u v) ≡ infinity
 added_opposite i t x y u v h b e p =
     add_opposite x y u v (run_none i t x y u h b e) (λ k. omega (arith, p, rise_same t x y v h k))
 
 -- where both are 0
-pub added_twice : Inverts field_prime → (t : Triple) (x y u v : ℕ) → StandsAt t x y → u < field_prime → v < field_prime → run t u ≡ 0 → rise t v ≡ 0 → add (at x y) (at u v) ≡ double (at x y)
+pub added_twice : Inverts field_prime → (t : Triple) (x y u v : ℕ) → StandsAt t x y → u < field_prime → v < field_prime → run t u ≡ 0
+    → rise t v ≡ 0 → add (at x y) (at u v) ≡ double (at x y)
 added_twice i t x y u v h b c e k =
     add_twice x y u v (run_none i t x y u h b e) (rise_none i t x y v h c k)
 

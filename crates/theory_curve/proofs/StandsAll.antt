@@ -16,7 +16,8 @@ doubled_stands t (at x y) h =
       | inr p ↦ doubled_some field_inverts t x y h p
     ]
 
-pub join_none : (t : Triple) (a : Point) (u v : ℕ) → t.z ≡ 0 → u < field_prime → v < field_prime → Stands t a → Stands (record { x = u; y = v; z = 1 }) (add a (at u v))
+pub join_none : (t : Triple) (a : Point) (u v : ℕ) → t.z ≡ 0 → u < field_prime → v < field_prime → Stands t a
+    → Stands (record { x = u; y = v; z = 1 }) (add a (at u v))
 join_none t infinity u v e p q h = lifted u v p q
 join_none t (at x y) u v e p q h = absurd (omega (arith, e, h.nonzero.above))
 

@@ -13,7 +13,8 @@ double_none : (x y : ℕ) → y ≡ 0 → double (at x y) ≡ infinity
 unfolding double
 double_none x y e = rw (eq-eqb y 0 e, double)
 
-double_some : (x y : ℕ) → 0 < y → double (at x y) ≡ third (times field_prime (times field_prime 3 (times field_prime x x)) (inverse field_prime (times field_prime 2 y))) x y x
+double_some : (x y : ℕ) → 0 < y → double (at x y)
+    ≡ third (times field_prime (times field_prime 3 (times field_prime x x)) (inverse field_prime (times field_prime 2 y))) x y x
 unfolding double
 double_some x y h = let ne : y ≡ 0 → ⊥ = λ e. omega (arith, e, h) in rw (ne_eqb y 0 ne, double)
 

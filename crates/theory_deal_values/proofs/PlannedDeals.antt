@@ -12,7 +12,7 @@ use Rattle.spec_bitcoin.specs.Meaning.{script_meaning}
 use Rattle.spec_bitcoin.specs.Numbers.{number_of_item, signed_bytes, item_of_number}
 use Rattle.spec_bitcoin.specs.Scripts.{ops_of}
 use Rattle.spec_compiler.specs.Keyed.Instance.{position_script}
-use Rattle.spec_text.specs.Lexis.{word_front, number_front, symbol_front}
+use Rattle.spec_text.specs.Lexis.{word_prefix, number_prefix, symbol_prefix}
 use Rattle.spec_text.specs.ReadAdvert.{read_answer, advert_of_all, advert_at, entries_at, entry_at, head_at, deposit_at, secret_at, fee_at}
 use Rattle.spec_text.specs.ReadContract.{withdraw_at, condition_at, reveals_at, puts_at, put_reveals_at, headed_at, one_branch_at}
 use Rattle.spec_text.specs.ReadContract.{branches_at, choice_with, parts_at, auth_at, after_at, put_at, reveal_at, split_at, branch_at}
@@ -84,7 +84,7 @@ one_deposit_is_planned :
     codes "digest r.0 0 a99dda9543730ec77317a9d236db04d3f26bc1a2a11a0b65059218fc850f9280" ∷
     codes "sign r.0 0 B:0:r.0:A endorse" ∷
     []))
-unfolding is_name word_front number_front symbol_front read_answer advert_of_all advert_at entries_at entry_at head_at
+unfolding is_name word_prefix number_prefix symbol_prefix read_answer advert_of_all advert_at entries_at entry_at head_at
     deposit_at secret_at fee_at choice_with branches_at branch_at parts_at auth_at after_at put_at reveal_at split_at
     reveals_at puts_at put_reveals_at headed_at one_branch_at condition_at names_from test_at comparison_at formula_at
     constant_at length_at withdraw_at digits label_text stripped marked compact places_list sequences_list
@@ -204,7 +204,7 @@ two_branches_are_planned :
     codes "sign r.1 0 B:0:r.1:A endorse" ∷
     codes "sign r.1 0 B:0:r.1:B authorise" ∷
     []))
-unfolding is_name word_front number_front symbol_front read_answer advert_of_all advert_at entries_at entry_at head_at
+unfolding is_name word_prefix number_prefix symbol_prefix read_answer advert_of_all advert_at entries_at entry_at head_at
     deposit_at secret_at fee_at choice_with branches_at branch_at parts_at auth_at after_at put_at reveal_at split_at
     reveals_at puts_at put_reveals_at headed_at one_branch_at condition_at names_from test_at comparison_at formula_at
     constant_at length_at withdraw_at digits label_text stripped marked compact places_list sequences_list
@@ -249,7 +249,7 @@ all_are_for_signers :
     codes "MXGJS5u+mCNAeSmSiWZbs9bR0BD8/bkAAAAAAAEBK7iCAQAAAAAAIgAg3g3RyrY3KRUfN5XvrPVU/v5Dv6L6YG5sorxHG6kJCakB" ++
     codes "AwQBAAAAAQUjIQOIA4D0/pH6ym2zOH9cmBwC/uDbrpJ46Nzy4HabFUV5B6wAAA==") ∷
     []))
-unfolding is_name word_front number_front symbol_front read_answer advert_of_all advert_at entries_at entry_at head_at
+unfolding is_name word_prefix number_prefix symbol_prefix read_answer advert_of_all advert_at entries_at entry_at head_at
     deposit_at secret_at fee_at choice_with branches_at branch_at parts_at auth_at after_at put_at reveal_at split_at
     reveals_at puts_at put_reveals_at headed_at one_branch_at condition_at names_from test_at comparison_at formula_at
     constant_at length_at withdraw_at digits label_text stripped marked compact places_list sequences_list

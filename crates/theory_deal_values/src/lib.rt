@@ -1,5 +1,5 @@
-//! What the program for deals answers to the words and files of worked deals, computed on the definitions by the kernel. The hashes are
-//! those of SHA-256, as tables; the expected texts come from another implementation.
+//! Test vectors of `bitml deal`: words and files of a deal and what the definitions answer, computed by the kernel.
+//! Hashes are tables of SHA-256; the expected texts come from another implementation.
 #![tactic(auto)]
 
 ghost use Rattle.theory_deal_values.specs.FinishedDeal.{FinishedDealExists};

@@ -1,4 +1,4 @@
--- The canonical text of the made contract is no longer than a contract text may be, so it is taken.
+-- The canonical text of the generated contract is no longer than a contract text may be, so it is taken.
 use Rattle.std.proofs.Common.{◌≡◌, ℕ, ◌+◌, ◌*◌, ◌<◌, ◌≤◌, List, [], ◌∷◌, ◌++◌, length, Ok, refl, arith}
 use Rattle.std.specs.Prelude.{codes}
 use Rattle.std.specs.Fmt.{decimal}
@@ -11,13 +11,13 @@ use Rattle.spec_text.specs.Canonical.{choice_text, rest_entries_text, advert_tex
 use Rattle.spec_text.specs.Limits.{most_text_bytes}
 use Rattle.spec_text.specs.ReadAdvert.{read_answer}
 use Rattle.spec_text.specs.Refusals.{contract_of}
-use Rattle.spec_text.specs.Generator.{made_contract, made_secrets}
-use Rattle.spec_text.specs.Generator.{Made, party_a, party_b, secret_name, stages, secret_entries, made_advert}
+use Rattle.spec_text.specs.Generator.{generated_contract, generated_secrets}
+use Rattle.spec_text.specs.Generator.{Generated, party_a, party_b, secret_name, stages, secret_entries, generated_advert}
 use Rattle.theory_text.proofs.Printed.Adverts.{printed_advert}
-use Rattle.theory_generator.specs.Made.{MadeContractsTaken}
+use Rattle.theory_generator.specs.Generated.{GeneratedContractsTaken}
 use Rattle.theory_generator.proofs.Names.{secret_short}
-use Rattle.theory_generator.proofs.Secrets.{AreMade, secrets_drawn}
-use Rattle.theory_generator.proofs.WellFormed.{made_well_formed}
+use Rattle.theory_generator.proofs.Secrets.{AreGenerated, secrets_drawn}
+use Rattle.theory_generator.proofs.WellFormed.{generated_well_formed}
 
 -- ---- lengths
 
@@ -72,7 +72,7 @@ stage-length name digits next height =
       length-append (reveal_text name digits next ++ late_text height) (codes ")"),
     )
 
-stages-length : (j : ℕ) (ms : List Made) → AreMade j ms → j + length ms ≤ 1000 → length (choice_text (stages j ms)) ≤ 100 * length ms + 10
+stages-length : (j : ℕ) (ms : List Generated) → AreGenerated j ms → j + length ms ≤ 1000 → length (choice_text (stages j ms)) ≤ 100 * length ms + 10
 stages-length j [] made h = omega arith
 stages-length j (m ∷ ms) made h =
     let name = secret_short j (omega arith) in
@@ -86,7 +86,7 @@ entry-length : (name rest : List ℕ)
     → length (codes " | " ++ ((party_a ++ (codes ": secret " ++ name)) ++ rest)) ≡ length name + length rest + 13
 entry-length name rest = omega (arith, length-append (party_a ++ (codes ": secret " ++ name)) rest)
 
-entries-length : (j : ℕ) (ms : List Made) → j + length ms ≤ 1000 → length (rest_entries_text (secret_entries j ms)) ≤ 20 * length ms
+entries-length : (j : ℕ) (ms : List Generated) → j + length ms ≤ 1000 → length (rest_entries_text (secret_entries j ms)) ≤ 20 * length ms
 entries-length j [] h = omega arith
 entries-length j (m ∷ ms) h =
     omega (
@@ -117,7 +117,7 @@ whole-length first second entries root =
       length-append second entries,
     )
 
-text-length : (ms : List Made) → AreMade 1 ms → length ms ≤ 30 → length (advert_text (made_advert ms)) ≤ 5000
+text-length : (ms : List Generated) → AreGenerated 1 ms → length ms ≤ 30 → length (advert_text (generated_advert ms)) ≤ 5000
 text-length ms made h =
     let all = decimal 1000000 in
     let none = decimal 0 in
@@ -139,12 +139,12 @@ text-length ms made h =
 taken_by : (text : List ℕ) (a : Advert) → length text ≤ 5000 → read_answer text ≡ Ok a → IsWellFormed a → contract_of text ≡ Ok a
 taken_by text a short read well = rw (le-ltb most_text_bytes (length text) (omega (arith, short)), read, well.faultless, well.limited) refl
 
-pub contract_taken : MadeContractsTaken
+pub contract_taken : GeneratedContractsTaken
 contract_taken number size few =
-    let contract = made_contract number size in
-    let well = made_well_formed number size few in
+    let contract = generated_contract number size in
+    let well = generated_well_formed number size few in
     let d = secrets_drawn size 1 number in
-    let short = text-length ((made_secrets number size).0) d.made (omega (arith, d.count)) in
+    let short = text-length ((generated_secrets number size).0) d.made (omega (arith, d.count)) in
     record {
       well_formed = well;
       taken = taken_by (advert_text contract) contract short (printed_advert contract well.readable) well;

@@ -13,20 +13,20 @@ use Rattle.spec_text.specs.declared.run_fault.RunLimit.TheVariants as limits
 use Rattle.spec_text.specs.Lines.{words_of}
 use Rattle.spec_text.specs.RunFile.{Line, over, says, held_secret, no_header, is_taken, secret_of, header_words, header_line}
 use Rattle.spec_text.specs.RunFile.{kept, header_step, read_header}
-use Rattle.spec_text.specs.Generator.{Made, party_a, party_b, secret_name, held, held_from, made_header}
+use Rattle.spec_text.specs.Generator.{Generated, party_a, party_b, secret_name, held, held_from, generated_header}
 use Rattle.theory_text.proofs.Lines.LineBytes.{LineWord, line_is}
 use Rattle.theory_text.proofs.Lines.ReadHeaders.{secret_words}
 use Rattle.theory_text.proofs.Lines.Separated.{spaced, spaced_words}
 use Rattle.theory_generator.proofs.Names.{secret_named}
 use Rattle.theory_generator.proofs.NumberWords.{not_long}
 use Rattle.theory_generator.proofs.Participants.{both_parties}
-use Rattle.theory_generator.proofs.Secrets.{IsMade, AreMade}
-use Rattle.theory_generator.proofs.MadeSecrets.{secret_written, secret_line_is, Untaken, untaken_more, untaken_is}
+use Rattle.theory_generator.proofs.Secrets.{IsMade, AreGenerated}
+use Rattle.theory_generator.proofs.GeneratedSecrets.{secret_written, secret_line_is, Untaken, untaken_more, untaken_is}
 
 -- ---- the lines
 
-abbrev pub front_lines : List (List ℕ)
-front_lines = codes "party A" ∷ codes "party B" ∷ codes "honest A" ∷ codes "honest B" ∷ []
+abbrev pub prefix_lines : List (List ℕ)
+prefix_lines = codes "party A" ∷ codes "party B" ∷ codes "honest A" ∷ codes "honest B" ∷ []
 
 -- the lines of these secrets before others
 abbrev pub secret_lines : List HeldSecret → List (List ℕ)
@@ -50,9 +50,9 @@ with_deposits ss = record {
 
 -- ---- the lines without variables
 
-front_read : (lines : List (List ℕ)) → read_header no_header 1 (front_lines ++ lines) ≡ read_header (with_secrets []) 5 lines
+prefix_read : (lines : List (List ℕ)) → read_header no_header 1 (prefix_lines ++ lines) ≡ read_header (with_secrets []) 5 lines
 unfolding is_name
-front_read lines = refl
+prefix_read lines = refl
 
 back_read : (ss : List HeldSecret) (n : ℕ) (lines : List (List ℕ))
     → read_header (with_secrets ss) n (back_lines ++ lines) ≡ Ok (with_deposits ss, lines, n + 1 + 1 + 1 + 1)
@@ -71,7 +71,7 @@ secret_read : (done : List HeldSecret) (name bytes : List ℕ) → is_name name 
     → secret_of (with_secrets done) party_a name (Some bytes) ≡ says (with_secrets (done ++ held_secret party_a name bytes ∷ []))
 secret_read done name bytes named new few = rw (named, new, lt-ltb (length done) most_header_secrets few) refl
 
-secret_says : (j : ℕ) (m : Made) (done : List HeldSecret) → IsMade j m → j < 256 → length done < 1000 → Untaken j done
+secret_says : (j : ℕ) (m : Generated) (done : List HeldSecret) → IsMade j m → j < 256 → length done < 1000 → Untaken j done
     → header_line (with_secrets done) (spaced (secret_words (held j m))) ≡ says (with_secrets (done ++ held j m ∷ []))
 secret_says j m done made small few new =
     let line = secret_line_is j m made small in
@@ -90,8 +90,8 @@ one_read : (h k : Header) (n : ℕ) (line : List ℕ) (lines : List (List ℕ)) 
     → read_header h n (line ∷ lines) ≡ read_header k (n + 1) lines
 one_read h k n line lines e = ap (λ (said : Line Header). header_step h n lines said (read_header (kept h said) (n + 1) lines)) e
 
-secrets_read : (j : ℕ) (ms : List Made) (done : List HeldSecret) (n : ℕ) (rest : List (List ℕ))
-    → AreMade j ms → j + length ms ≤ 100 → length done < j → Untaken j done
+secrets_read : (j : ℕ) (ms : List Generated) (done : List HeldSecret) (n : ℕ) (rest : List (List ℕ))
+    → AreGenerated j ms → j + length ms ≤ 100 → length done < j → Untaken j done
     → Reached (with_secrets done) (with_secrets (done ++ held_from j ms)) n (secret_lines (held_from j ms) ++ rest) rest
 secrets_read j [] done n rest made small few new = record {
   number = n;
@@ -114,18 +114,18 @@ secrets_read j (m ∷ ms) done n rest made small few new =
 -- ---- the header
 
 -- the lines of the header of these secrets, and others
-abbrev pub header_lines : List Made → List (List ℕ) → List (List ℕ)
-header_lines ms rest = front_lines ++ (secret_lines (held_from 1 ms) ++ (back_lines ++ rest))
+abbrev pub header_lines : List Generated → List (List ℕ) → List (List ℕ)
+header_lines ms rest = prefix_lines ++ (secret_lines (held_from 1 ms) ++ (back_lines ++ rest))
 
 -- what is read of them
-pub record HeaderRead (ms : List Made) (rest : List (List ℕ)) : Type 0 where
+pub record HeaderRead (ms : List Generated) (rest : List (List ℕ)) : Type 0 where
   pub number : ℕ
-  pub read : read_header no_header 1 (header_lines ms rest) ≡ Ok (made_header ms, rest, number)
+  pub read : read_header no_header 1 (header_lines ms rest) ≡ Ok (generated_header ms, rest, number)
 
-pub header_read : (ms : List Made) (rest : List (List ℕ)) → AreMade 1 ms → length ms ≤ 30 → HeaderRead ms rest
+pub header_read : (ms : List Generated) (rest : List (List ℕ)) → AreGenerated 1 ms → length ms ≤ 30 → HeaderRead ms rest
 header_read ms rest made few =
     let r = secrets_read 1 ms [] 5 (back_lines ++ rest) made (omega (arith, few)) (omega arith) (λ k more h less. refl) in
     record {
       number = r.number + 1 + 1 + 1 + 1;
-      read = front_read (secret_lines (held_from 1 ms) ++ (back_lines ++ rest)) ∙ (r.read ∙ back_read (held_from 1 ms) r.number rest);
+      read = prefix_read (secret_lines (held_from 1 ms) ++ (back_lines ++ rest)) ∙ (r.read ∙ back_read (held_from 1 ms) r.number rest);
     }

@@ -1,7 +1,7 @@
 pub mod ContractText
 pub mod HeaderLines
-pub mod MadeEvents
-pub mod MadeSecrets
+pub mod GeneratedEvents
+pub mod GeneratedSecrets
 pub mod Names
 pub mod NumberWords
 pub mod Participants

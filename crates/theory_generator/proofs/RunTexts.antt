@@ -1,4 +1,4 @@
--- The text of the made run is valid and spells it.
+-- The text of the generated run is valid and spells it.
 use Rattle.std.proofs.Common.{◌≡◌, ℕ, ◌+◌, ◌*◌, ◌<◌, ◌≤◌, Bool, true, not, List, [], ◌∷◌, ◌++◌, length, map, Some, Ok}
 use Rattle.std.proofs.Common.{refl, sym, ap, subst, ◌∙◌, arith, append_assoc}
 use Rattle.std.specs.Prelude.{◌&&◌, nat_le, flat_map, codes}
@@ -19,19 +19,19 @@ use Rattle.spec_text.specs.RunFile.{Line, over, says, event_within, event_words,
 use Rattle.spec_text.specs.RunFile.{with_event, counted, event_step, read_events}
 use Rattle.spec_text.specs.RunFile.{no_header, read_header, with_header, read_rest, read_run}
 use Rattle.spec_text.specs.Refusals.{run_of}
-use Rattle.spec_text.specs.Generator.{Made, party_a, party_b, held, held_from, made_header, made_events, made_secrets}
+use Rattle.spec_text.specs.Generator.{Generated, party_a, party_b, held, held_from, generated_header, generated_events, generated_secrets}
 use Rattle.theory_text.proofs.ListFacts.{and_left, and_right}
 use Rattle.theory_text.proofs.Lines.LineBytes.{ends_line, lined, lines_again, lined_map, spaced_ends, line_is, line_ends}
 use Rattle.theory_text.proofs.Lines.ReadHeaders.{secret_words}
 use Rattle.theory_text.proofs.Lines.Separated.{Lacks, spaced, spaced_words}
 use Rattle.theory_text.proofs.Printed.Tests.{le_is}
-use Rattle.theory_generator.specs.MadeRuns.{MadeRunsTaken}
-use Rattle.theory_generator.proofs.HeaderLines.{front_lines, secret_lines, back_lines, header_read}
-use Rattle.theory_generator.proofs.MadeEvents.{events_spelled}
-use Rattle.theory_generator.proofs.MadeSecrets.{secret_line_is}
+use Rattle.theory_generator.specs.GeneratedRuns.{GeneratedRunsTaken}
+use Rattle.theory_generator.proofs.HeaderLines.{prefix_lines, secret_lines, back_lines, header_read}
+use Rattle.theory_generator.proofs.GeneratedEvents.{events_spelled}
+use Rattle.theory_generator.proofs.GeneratedSecrets.{secret_line_is}
 use Rattle.theory_generator.proofs.NumberWords.{lacks_by, not_long}
 use Rattle.theory_generator.proofs.Participants.{both_parties}
-use Rattle.theory_generator.proofs.Secrets.{AreMade, secrets_drawn}
+use Rattle.theory_generator.proofs.Secrets.{AreGenerated, secrets_drawn}
 use Rattle.theory_generator.proofs.SpelledEvents.{IsSpelled, AllSpelled}
 
 -- ---- the lines of the text
@@ -39,11 +39,11 @@ use Rattle.theory_generator.proofs.SpelledEvents.{IsSpelled, AllSpelled}
 abbrev event_lines : List Event → List (List ℕ)
 event_lines es = map event_text es
 
-abbrev all_lines : List Made → List Event → List (List ℕ)
-all_lines ms es = front_lines ++ (secret_lines (held_from 1 ms) ++ (back_lines ++ event_lines es))
+abbrev all_lines : List Generated → List Event → List (List ℕ)
+all_lines ms es = prefix_lines ++ (secret_lines (held_from 1 ms) ++ (back_lines ++ event_lines es))
 
-abbrev run_with : List Made → List Event → Run
-run_with ms es = record { header = made_header ms; events = es }
+abbrev run_with : List Generated → List Event → Run
+run_with ms es = record { header = generated_header ms; events = es }
 
 events_lined : (es : List Event) → flat_map (λ e. event_text e ++ newline) es ≡ lined (event_lines es)
 events_lined [] = refl
@@ -63,7 +63,7 @@ back_lined : back_text ≡ lined back_lines
 unfolding digits
 back_lined = refl
 
-text_lined : (ms : List Made) (es : List Event) → run_text (run_with ms es) ≡ lined (all_lines ms es)
+text_lined : (ms : List Generated) (es : List Event) → run_text (run_with ms es) ≡ lined (all_lines ms es)
 text_lined ms es =
     let hs = held_from 1 ms in
     let events = flat_map (λ e. event_text e ++ newline) es in
@@ -73,7 +73,7 @@ text_lined ms es =
     append_assoc (flat_map secret_text hs) back_text events
     ∙ (ap (λ (xs : List ℕ). flat_map secret_text hs ++ xs) back
     ∙ lined_map secret_text (λ s. spaced (secret_words s)) secret_lined hs (back_lines ++ lines)) in
-    ap (λ (xs : List ℕ). lined front_lines ++ xs) secrets
+    ap (λ (xs : List ℕ). lined prefix_lines ++ xs) secrets
 
 -- ---- each line is short and ends nowhere within
 
@@ -96,7 +96,7 @@ fixed_before [] rest h k = k
 fixed_before (line ∷ lines) rest h k =
     (fixed_line line (and_left _ _ h), fixed_before lines rest (and_right (is_line line) _ h) k)
 
-secrets_before : (j : ℕ) (ms : List Made) (rest : List (List ℕ)) → AreMade j ms → j + length ms ≤ 100 → AllByRecursion IsLine rest
+secrets_before : (j : ℕ) (ms : List Generated) (rest : List (List ℕ)) → AreGenerated j ms → j + length ms ≤ 100 → AllByRecursion IsLine rest
     → AllByRecursion IsLine (secret_lines (held_from j ms) ++ rest)
 secrets_before j [] rest made small k = k
 secrets_before j (m ∷ ms) rest made small k =
@@ -112,11 +112,11 @@ events_are_lines : (es : List Event) → AllSpelled es → AllByRecursion IsLine
 events_are_lines [] h = tt
 events_are_lines (e ∷ es) h = (event_line e h.0, events_are_lines es h.1)
 
-all_are_lines : (ms : List Made) (es : List Event) → AreMade 1 ms → length ms ≤ 30 → AllSpelled es
+all_are_lines : (ms : List Generated) (es : List Event) → AreGenerated 1 ms → length ms ≤ 30 → AllSpelled es
     → AllByRecursion IsLine (all_lines ms es)
 all_are_lines ms es made few h =
     let back = fixed_before back_lines (event_lines es) refl (events_are_lines es h) in
-    fixed_before front_lines _ refl (secrets_before 1 ms _ made (omega (arith, few)) back)
+    fixed_before prefix_lines _ refl (secrets_before 1 ms _ made (omega (arith, few)) back)
 
 lines_end : (lines : List (List ℕ)) → AllByRecursion IsLine lines → AllByRecursion (Lacks ends_line) lines
 lines_end [] h = tt
@@ -135,7 +135,7 @@ lined-length (line ∷ lines) h =
       lined-length lines h.1,
     )
 
-count-secrets : (j : ℕ) (ms : List Made) → length (secret_lines (held_from j ms)) ≡ length ms
+count-secrets : (j : ℕ) (ms : List Generated) → length (secret_lines (held_from j ms)) ≡ length ms
 count-secrets j [] = refl
 count-secrets j (m ∷ ms) = omega (arith, count-secrets (j + 1) ms)
 
@@ -143,7 +143,7 @@ count-events : (es : List Event) → length (event_lines es) ≡ length es
 count-events [] = refl
 count-events (e ∷ es) = omega (arith, count-events es)
 
-count-lines : (ms : List Made) (es : List Event) → length (all_lines ms es) ≡ length ms + length es + 8
+count-lines : (ms : List Generated) (es : List Event) → length (all_lines ms es) ≡ length ms + length es + 8
 count-lines ms es =
     omega (
       arith,
@@ -176,7 +176,7 @@ events_read (e ∷ es) count n h few =
 
 -- ---- the run is read
 
-run_read : (ms : List Made) (es : List Event) → AreMade 1 ms → length ms ≤ 30 → AllSpelled es → length es ≤ 9069
+run_read : (ms : List Generated) (es : List Event) → AreGenerated 1 ms → length ms ≤ 30 → AllSpelled es → length es ≤ 9069
     → read_run (run_text (run_with ms es)) ≡ Ok (run_with ms es)
 run_read ms es made few h most =
     let ends = lines_end (all_lines ms es) (all_are_lines ms es made few h) in
@@ -184,9 +184,9 @@ run_read ms es made few h most =
     let header = header_read ms (event_lines es) made few in
     let events = events_read es 0 header.number h (omega (arith, most)) in
     ap (λ (ls : List (List ℕ)). read_rest (read_header no_header 1 ls)) lines
-    ∙ (ap read_rest header.read ∙ ap (with_header (made_header ms)) events)
+    ∙ (ap read_rest header.read ∙ ap (with_header (generated_header ms)) events)
 
-run_short : (ms : List Made) (es : List Event) → AreMade 1 ms → length ms ≤ 30 → AllSpelled es → length es ≤ 9069
+run_short : (ms : List Generated) (es : List Event) → AreGenerated 1 ms → length ms ≤ 30 → AllSpelled es → length es ≤ 9069
     → length (run_text (run_with ms es)) ≤ 1000000
 run_short ms es made few h most =
     let lines = all_lines ms es in
@@ -197,11 +197,11 @@ run_short ms es made few h most =
 taken_by : (text : List ℕ) (run : Run) → length text ≤ 1000000 → read_run text ≡ Ok run → run_of text ≡ Ok run
 taken_by text run short read = rw (le-ltb most_run_bytes (length text) (omega (arith, short)), read) refl
 
-pub run_taken : MadeRunsTaken
+pub run_taken : GeneratedRunsTaken
 run_taken number size few =
-    let d = made_secrets number size in
+    let d = generated_secrets number size in
     let made = secrets_drawn size 1 number in
-    let es = made_events size (d.1) in
+    let es = generated_events size (d.1) in
     let events = events_spelled size (d.1) few in
     let count : length (d.0) ≤ 30 = omega (arith, made.count, few) in
     let most : length es ≤ 9069 = omega (arith, events.many, few) in

@@ -1,7 +1,7 @@
 -- What is known of the secrets that are drawn.
 use Rattle.std.proofs.Common.{◌≡◌, ℕ, zero, suc, ◌+◌, ◌%◌, ◌<◌, ◌≤◌, List, [], ◌∷◌, length, refl, arith}
 use Rattle.spec_data.specs.Hashes.{IsBytes}
-use Rattle.spec_text.specs.Generator.{next_state, drawn, draw_bytes, Made, made_of, draw_secret, draw_secrets}
+use Rattle.spec_text.specs.Generator.{next_state, drawn, draw_bytes, Generated, made_of, draw_secret, draw_secrets}
 
 -- ---- bytes
 
@@ -29,21 +29,21 @@ bytes_drawn (suc n) state =
 -- ---- secrets
 
 -- secret j: its first byte is its number
-pub record IsMade (j : ℕ) (m : Made) : Type 0 where
+pub record IsMade (j : ℕ) (m : Generated) : Type 0 where
   pub short : m.0 ≤ 16
   pub rest : List ℕ
   pub is : m.1 ≡ j ∷ rest
   pub are : AreBytes (15 + m.0) rest
 
 -- the secrets from number j on
-abbrev pub AreMade : ℕ → List Made → Type 0
-AreMade j [] = Unit {0}
-AreMade j (m ∷ ms) = IsMade j m × AreMade (j + 1) ms
+abbrev pub AreGenerated : ℕ → List Generated → Type 0
+AreGenerated j [] = Unit {0}
+AreGenerated j (m ∷ ms) = IsMade j m × AreGenerated (j + 1) ms
 
 -- so many of them
-pub record AreDrawn (n j : ℕ) (ms : List Made) : Type 0 where
+pub record AreDrawn (n j : ℕ) (ms : List Generated) : Type 0 where
   pub count : length ms ≡ n
-  pub made : AreMade j ms
+  pub made : AreGenerated j ms
 
 length_of : (x : ℕ) → x % 17 ≤ 16
 length_of x = omega arith

@@ -1,4 +1,4 @@
--- What holds of each position and branch of the made contract.
+-- What holds of each position and branch of the generated contract.
 use Rattle.std.proofs.Common.{◌≡◌, ℕ, suc, ◌+◌, ◌*◌, ◌≤◌, Bool, false, List, [], ◌∷◌, ◌++◌, length, None, refl, sym, subst, arith}
 use Rattle.std.specs.Prelude.{ℤ, pos}
 use Rattle.std.specs.List.{AllByRecursion}
@@ -9,8 +9,8 @@ use Rattle.spec_terms.specs.Balance.{Funded, as_funded, branches_funded, root_ba
 use Rattle.spec_terms.specs.Faults.{first_place}
 use Rattle.spec_terms.specs.declared.path.PathStep.{PathStep}
 use Rattle.spec_terms.specs.declared.path.PathStep.TheVariants.{Branch as To}
-use Rattle.spec_text.specs.Generator.{Made, party_a, party_b, secret_name, stages, secret_entries, made_advert}
-use Rattle.theory_generator.proofs.Secrets.{AreMade}
+use Rattle.spec_text.specs.Generator.{Generated, party_a, party_b, secret_name, stages, secret_entries, generated_advert}
+use Rattle.theory_generator.proofs.Secrets.{AreGenerated}
 
 -- ---- lists of positions and branches
 
@@ -26,7 +26,7 @@ pub none_placed : (test : Funded → Bool) (ss : List Funded) → Clear test ss 
 none_placed test [] h = refl
 none_placed test (s ∷ ss) h = rw (h.0, none_placed test ss h.1) refl
 
--- ---- the made contract
+-- ---- the generated contract
 
 -- all that is there
 abbrev pub held_balance : ℤ
@@ -49,14 +49,14 @@ last path = as_funded path held_balance (at_branch (withdraw party_a))
 
 -- the test is true of no position and no branch of stages up to this number
 pub record ClearsStages (most : ℕ) (test : Funded → Bool) : Type 0 where
-  pub positions : (path : List PathStep) (j : ℕ) (ms : List Made) → AreMade j ms → test (here path (stages j ms)) ≡ false
+  pub positions : (path : List PathStep) (j : ℕ) (ms : List Generated) → AreGenerated j ms → test (here path (stages j ms)) ≡ false
   pub reveals : (path : List PathStep) (j n : ℕ) (next : Contract) → 1 ≤ j → j ≤ most → n ≤ 16
       → test (revealing path j n next) ≡ false
   pub lates : (path : List PathStep) (j : ℕ) → test (late path j) ≡ false
   pub lasts : (path : List PathStep) → test (last path) ≡ false
 
-stages_clear : (most : ℕ) (test : Funded → Bool) → ClearsStages most test → (path : List PathStep) (j : ℕ) (ms : List Made)
-    → AreMade j ms → 1 ≤ j → j + length ms ≤ suc most → Clear test (branches_funded [] 0 path held_balance 0 (stages j ms))
+stages_clear : (most : ℕ) (test : Funded → Bool) → ClearsStages most test → (path : List PathStep) (j : ℕ) (ms : List Generated)
+    → AreGenerated j ms → 1 ≤ j → j + length ms ≤ suc most → Clear test (branches_funded [] 0 path held_balance 0 (stages j ms))
 stages_clear most test c path j [] made some h = (c.lasts (path ++ To 0 ∷ []), tt)
 stages_clear most test c path j (m ∷ ms) made some h =
     let p : List PathStep = path ++ To 0 ∷ [] in
@@ -69,24 +69,24 @@ stages_clear most test c path j (m ∷ ms) made some h =
 
 -- ---- all of it
 
-pub no_persistent_more : (j : ℕ) (ms : List Made) → persistent (secret_entries j ms) ≡ []
+pub no_persistent_more : (j : ℕ) (ms : List Generated) → persistent (secret_entries j ms) ≡ []
 no_persistent_more j [] = refl
 no_persistent_more j (m ∷ ms) = no_persistent_more (j + 1) ms
 
-pub no_volatile : (j : ℕ) (ms : List Made) → volatile (secret_entries j ms) ≡ []
+pub no_volatile : (j : ℕ) (ms : List Generated) → volatile (secret_entries j ms) ≡ []
 no_volatile j [] = refl
 no_volatile j (m ∷ ms) = no_volatile (j + 1) ms
 
-all_clear : (ms : List Made) (test : Funded → Bool) → AreMade 1 ms → ClearsStages (length ms) test
-    → Clear test (all_funded (made_advert ms))
+all_clear : (ms : List Generated) (test : Funded → Bool) → AreGenerated 1 ms → ClearsStages (length ms) test
+    → Clear test (all_funded (generated_advert ms))
 all_clear ms test made c =
-    let balance : root_balance (made_advert ms) ≡ held_balance = rw (no_persistent_more 1 ms) refl in
+    let balance : root_balance (generated_advert ms) ≡ held_balance = rw (no_persistent_more 1 ms) refl in
     let volatile' = no_volatile 1 ms in
     let root = stages 1 ms in
-    let all : all_funded (made_advert ms) ≡ here [] root ∷ branches_funded [] 0 [] held_balance 0 root =
+    let all : all_funded (generated_advert ms) ≡ here [] root ∷ branches_funded [] 0 [] held_balance 0 root =
     λ i. as_funded [] (balance i) (position root) ∷ branches_funded (volatile' i) 0 [] (balance i) 0 root in
     subst (Clear test) (sym all) (c.positions [] 1 ms made, stages_clear (length ms) test c [] 1 ms made (omega arith) (omega arith))
 
-pub no_place : (ms : List Made) (test : Funded → Bool) → AreMade 1 ms → ClearsStages (length ms) test
-    → first_place test (all_funded (made_advert ms)) ≡ None
-no_place ms test made c = none_placed test (all_funded (made_advert ms)) (all_clear ms test made c)
+pub no_place : (ms : List Generated) (test : Funded → Bool) → AreGenerated 1 ms → ClearsStages (length ms) test
+    → first_place test (all_funded (generated_advert ms)) ≡ None
+no_place ms test made c = none_placed test (all_funded (generated_advert ms)) (all_clear ms test made c)

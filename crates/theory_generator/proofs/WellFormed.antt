@@ -1,4 +1,4 @@
--- The made contract has no fault and is within the limits of the check.
+-- The generated contract has no fault and is within the limits of the check.
 use Rattle.std.proofs.Common.{◌≡◌, ℕ, ◌+◌, ◌<◌, ◌≤◌, Bool, true, false, List, [], ◌∷◌, ◌++◌, length, map, None, refl, subst, ◌∙◌, arith}
 use Rattle.std.specs.Prelude.{◌||◌}
 use Rattle.std.specs.Str.{bytes_eq}
@@ -10,13 +10,13 @@ use Rattle.spec_terms.specs.Faults.{at_core, at_position, first_repeated, name_r
 use Rattle.spec_terms.specs.Faults.{repeats, tests_hidden}
 use Rattle.spec_terms.specs.Faults.{no_persistent, is_uneven, is_short, first_fault, IsWellFormed}
 use Rattle.spec_terms.specs.Faults.{too_many_participants, is_too_much, is_unbounded, is_too_large, first_limit}
-use Rattle.spec_text.specs.Generator.{Made, secret_name, stages, secret_entries, made_advert, made_contract, made_secrets}
+use Rattle.spec_text.specs.Generator.{Generated, secret_name, stages, secret_entries, generated_advert, generated_contract, generated_secrets}
 use Rattle.theory_text.proofs.ListFacts.{or_no}
 use Rattle.theory_text.proofs.Within.ReadWithin.{le_yes}
 use Rattle.theory_generator.proofs.Names.{names_apart, same_name}
 use Rattle.theory_generator.proofs.Readable.{advert_readable}
 use Rattle.theory_generator.proofs.Participants.{participants-made}
-use Rattle.theory_generator.proofs.Secrets.{AreMade, secrets_drawn}
+use Rattle.theory_generator.proofs.Secrets.{AreGenerated, secrets_drawn}
 use Rattle.theory_generator.proofs.Stages.{ClearsStages, no_place}
 
 -- ---- names
@@ -31,14 +31,14 @@ fresh_more j names small h k more less =
     list_any-append (λ t. bytes_eq t (secret_name k)) names (secret_name j ∷ [])
     ∙ or_no _ _ (h k (omega arith) less) (or_no _ _ apart refl)
 
-none_repeated : (j : ℕ) (ms : List Made) (n : ℕ) (before : List (List ℕ)) → j + length ms ≤ 1000 → Fresh j before
+none_repeated : (j : ℕ) (ms : List Generated) (n : ℕ) (before : List (List ℕ)) → j + length ms ≤ 1000 → Fresh j before
     → first_repeated n before (map name_in (secret_entries j ms)) ≡ None
 none_repeated j [] n before h fresh = refl
 none_repeated j (m ∷ ms) n before h fresh =
     let later = none_repeated (j + 1) ms (n + 1) (before ++ secret_name j ∷ []) (omega arith) (fresh_more j before (omega arith) fresh) in
     rw (fresh j (omega arith) (omega arith)) later
 
-names_new : (ms : List Made) → length ms ≤ 30 → name_repeated (made_advert ms) ≡ None
+names_new : (ms : List Generated) → length ms ≤ 30 → name_repeated (generated_advert ms) ≡ None
 names_new ms h = rw (none_repeated 1 ms 2 ((120 ∷ []) ∷ (121 ∷ []) ∷ []) (omega arith) (λ k more less. refl)) refl
 
 known_by : (j k : ℕ) (t later : Bool) → bytes_eq (secret_name j) (secret_name k) ≡ t → ((j ≡ k → ⊥) → later ≡ true) → (t || later) ≡ true
@@ -47,7 +47,7 @@ known_by j k false later e f =
     f (λ same. let yes = subst (λ (i : ℕ). bytes_eq (secret_name j) (secret_name i) ≡ true) same (same_name (secret_name j)) in absurd cc)
 
 -- a secret is among those of the precondition
-entry_known : (j k : ℕ) (ms : List Made) → j ≤ k → k < j + length ms
+entry_known : (j k : ℕ) (ms : List Generated) → j ≤ k → k < j + length ms
     → is_among (secret_name k) (names_of (secrets (secret_entries j ms))) ≡ true
 entry_known j k [] more less = absurd (omega arith)
 entry_known j k (m ∷ ms) more less =
@@ -58,7 +58,7 @@ entry_known j k (m ∷ ms) more less =
 
 -- ---- the tests at each position and branch
 
-no_put : (ms : List Made) → ClearsStages (length ms) (λ s. at_core (puts_unknown (made_advert ms).pre) s.subterm)
+no_put : (ms : List Generated) → ClearsStages (length ms) (λ s. at_core (puts_unknown (generated_advert ms).pre) s.subterm)
 no_put ms = record {
   positions = λ path j rest made. refl;
   reveals = λ path j n next some few short. refl;
@@ -66,7 +66,7 @@ no_put ms = record {
   lasts = λ path. refl;
 }
 
-all_revealed : (ms : List Made) → ClearsStages (length ms) (λ s. at_core (reveals_unknown (made_advert ms).pre) s.subterm)
+all_revealed : (ms : List Generated) → ClearsStages (length ms) (λ s. at_core (reveals_unknown (generated_advert ms).pre) s.subterm)
 all_revealed ms = record {
   positions = λ path j rest made. refl;
   reveals = λ path j n next some few short. rw (entry_known 1 j ms some (omega arith)) refl;
@@ -74,7 +74,7 @@ all_revealed ms = record {
   lasts = λ path. refl;
 }
 
-none_twice : (ms : List Made) → ClearsStages (length ms) (λ s. at_core repeats s.subterm)
+none_twice : (ms : List Generated) → ClearsStages (length ms) (λ s. at_core repeats s.subterm)
 none_twice ms = record {
   positions = λ path j rest made. refl;
   reveals = λ path j n next some few short. refl;
@@ -82,7 +82,7 @@ none_twice ms = record {
   lasts = λ path. refl;
 }
 
-none_hidden : (ms : List Made) → ClearsStages (length ms) (λ s. at_core tests_hidden s.subterm)
+none_hidden : (ms : List Generated) → ClearsStages (length ms) (λ s. at_core tests_hidden s.subterm)
 none_hidden ms = record {
   positions = λ path j rest made. refl;
   reveals = λ path j n next some few short. rw (same_name (secret_name j)) refl;
@@ -90,7 +90,7 @@ none_hidden ms = record {
   lasts = λ path. refl;
 }
 
-no_split : (ms : List Made) → ClearsStages (length ms) (λ s. at_core (is_uneven (made_advert ms).fee s.balance) s.subterm)
+no_split : (ms : List Generated) → ClearsStages (length ms) (λ s. at_core (is_uneven (generated_advert ms).fee s.balance) s.subterm)
 no_split ms = record {
   positions = λ path j rest made. refl;
   reveals = λ path j n next some few short. refl;
@@ -98,7 +98,7 @@ no_split ms = record {
   lasts = λ path. refl;
 }
 
-none_short : (ms : List Made) → ClearsStages (length ms) (λ s. is_short (made_advert ms).fee s.balance s.subterm)
+none_short : (ms : List Generated) → ClearsStages (length ms) (λ s. is_short (generated_advert ms).fee s.balance s.subterm)
 none_short ms = record {
   positions = λ path j rest made. refl;
   reveals = λ path j n next some few short. refl;
@@ -106,7 +106,7 @@ none_short ms = record {
   lasts = λ path. refl;
 }
 
-not_too_much : (ms : List Made) → ClearsStages (length ms) (λ s. at_position (λ c. is_too_much s.balance) s.subterm)
+not_too_much : (ms : List Generated) → ClearsStages (length ms) (λ s. at_position (λ c. is_too_much s.balance) s.subterm)
 not_too_much ms = record {
   positions = λ path j rest made. refl;
   reveals = λ path j n next some few short. refl;
@@ -114,7 +114,7 @@ not_too_much ms = record {
   lasts = λ path. refl;
 }
 
-all_bounded : (ms : List Made) → ClearsStages (length ms) (λ s. at_core is_unbounded s.subterm)
+all_bounded : (ms : List Generated) → ClearsStages (length ms) (λ s. at_core is_unbounded s.subterm)
 all_bounded ms = record {
   positions = λ path j rest made. refl;
   reveals = λ path j n next some few short. rw (le_yes n 2147483647 (omega arith)) refl;
@@ -124,12 +124,12 @@ all_bounded ms = record {
 
 -- ---- the size of scripts
 
-small_stages : (j : ℕ) (ms : List Made) → AreMade j ms → is_too_large 2 (stages j ms) ≡ false
+small_stages : (j : ℕ) (ms : List Generated) → AreGenerated j ms → is_too_large 2 (stages j ms) ≡ false
 small_stages j [] made = refl
 small_stages j (m ∷ ms) made = rw (le_yes m.0 16 made.0.short, same_name (secret_name j)) refl
 
-all_small : (ms : List Made)
-    → ClearsStages (length ms) (λ s. at_position (is_too_large (length (participants (made_advert ms)))) s.subterm)
+all_small : (ms : List Generated)
+    → ClearsStages (length ms) (λ s. at_position (is_too_large (length (participants (generated_advert ms)))) s.subterm)
 all_small ms = record {
   positions = λ path j rest made. rw (participants-made ms) (small_stages j rest made);
   reveals = λ path j n next some few short. refl;
@@ -139,13 +139,13 @@ all_small ms = record {
 
 -- ---- the rest
 
-all_persistent : (ms : List Made) → no_persistent (made_advert ms) ≡ None
+all_persistent : (ms : List Generated) → no_persistent (generated_advert ms) ≡ None
 all_persistent ms = rw (participants-made ms) refl
 
-two_participants : (ms : List Made) → too_many_participants (made_advert ms) ≡ None
+two_participants : (ms : List Generated) → too_many_participants (generated_advert ms) ≡ None
 two_participants ms = rw (participants-made ms) refl
 
-pub faultless : (ms : List Made) → AreMade 1 ms → length ms ≤ 30 → first_fault (made_advert ms) ≡ None
+pub faultless : (ms : List Generated) → AreGenerated 1 ms → length ms ≤ 30 → first_fault (generated_advert ms) ≡ None
 faultless ms made h =
     rw (
       names_new ms h,
@@ -158,7 +158,7 @@ faultless ms made h =
       no_place ms _ made (none_short ms),
     ) refl
 
-pub limited : (ms : List Made) → AreMade 1 ms → first_limit (made_advert ms) ≡ None
+pub limited : (ms : List Generated) → AreGenerated 1 ms → first_limit (generated_advert ms) ≡ None
 limited ms made =
     rw (
       two_participants ms,
@@ -167,10 +167,10 @@ limited ms made =
       no_place ms _ made (all_small ms),
     ) refl
 
-pub well_formed : (ms : List Made) → AreMade 1 ms → length ms ≤ 30 → IsWellFormed (made_advert ms)
+pub well_formed : (ms : List Generated) → AreGenerated 1 ms → length ms ≤ 30 → IsWellFormed (generated_advert ms)
 well_formed ms made h = record { readable = advert_readable ms made h; faultless = faultless ms made h; limited = limited ms made }
 
-pub made_well_formed : (number size : ℕ) → size ≤ 30 → IsWellFormed (made_contract number size)
-made_well_formed number size h =
+pub generated_well_formed : (number size : ℕ) → size ≤ 30 → IsWellFormed (generated_contract number size)
+generated_well_formed number size h =
     let d = secrets_drawn size 1 number in
-    well_formed ((made_secrets number size).0) d.made (omega (arith, d.count))
+    well_formed ((generated_secrets number size).0) d.made (omega (arith, d.count))

@@ -1,2 +1,2 @@
-pub mod Made
-pub mod MadeRuns
+pub mod Generated
+pub mod GeneratedRuns

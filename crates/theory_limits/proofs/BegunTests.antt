@@ -57,7 +57,7 @@ middle c d t h w =
     let o = h.back in
     let f = o.back in
     let e = f.back in
-    let close : f.second ≡ d ∷ [] = one d f.second e.first e.second e.parts e.front ∙ add d e.back in
+    let close : f.second ≡ d ∷ [] = one d f.second e.first e.second e.parts e.prefix ∙ add d e.back in
     h.parts ∙ ap (λ (z : List Lexeme). h.first ++ z) (one c h.second o.first o.second o.parts w)
     ∙ ap (λ (z : List Lexeme). h.first ++ c ∷ z) (f.parts ∙ ap (λ (z : List Lexeme). f.first ++ z) close)
 
@@ -68,29 +68,29 @@ signed_by d t h (inl w) =
     let is =
     middle (symbol mark.Plus) (symbol mark.RightParen) t h w in
     record {
-      value = plus h.front.value f.front.value;
-      spelled = (h.first, f.first, add (symbol mark.LeftParen) is, h.front.spelled, f.front.spelled);
+      value = plus h.prefix.value f.prefix.value;
+      spelled = (h.first, f.first, add (symbol mark.LeftParen) is, h.prefix.spelled, f.prefix.spelled);
     }
 signed_by d t h (inr w) =
     let f = h.back.back in
     let is =
     middle (symbol mark.Minus) (symbol mark.RightParen) t h w in
     record {
-      value = minus h.front.value f.front.value;
-      spelled = (h.first, f.first, add (symbol mark.LeftParen) is, h.front.spelled, f.front.spelled);
+      value = minus h.prefix.value f.prefix.value;
+      spelled = (h.first, f.first, add (symbol mark.LeftParen) is, h.prefix.spelled, f.prefix.spelled);
     }
 
 pub begun_formula : (d : ℕ) (c : Lexeme) → Begun (Has SpellsFormula) c (next_formula d c)
 begun_formula d (number n) = λ t e. (number n, refl, record { value = constant n; spelled = add (number n) e })
 begun_formula d huge_number = λ t e. (number 0, tt, record { value = constant 0; spelled = add (number 0) e })
 begun_formula d (symbol mark.Bar) = λ t h.
-    let x = h.front.0 in
+    let x = h.prefix.0 in
     let is : t ≡ name x ∷ symbol mark.Bar ∷ [] =
-    one (name x) t h.first h.second h.parts h.front.1
+    one (name x) t h.first h.second h.parts h.prefix.1
     ∙ add (name x)
-    (one (symbol mark.Bar) h.second h.back.first h.back.second h.back.parts h.back.front ∙ add (symbol mark.Bar) h.back.back) in
+    (one (symbol mark.Bar) h.second h.back.first h.back.second h.back.parts h.back.prefix ∙ add (symbol mark.Bar) h.back.back) in
     (symbol mark.Bar, refl, record { value = length_of x; spelled = add (symbol mark.Bar) is })
-begun_formula d (symbol mark.LeftParen) = λ t h. (symbol mark.LeftParen, refl, signed_by d t h h.back.front)
+begun_formula d (symbol mark.LeftParen) = λ t h. (symbol mark.LeftParen, refl, signed_by d t h h.back.prefix)
 begun_formula d c = tt
 
 -- ---- predicates
@@ -103,21 +103,21 @@ related_by d c u v t e l is h (inl w) =
     is
     ∙ ap (λ (z : List Lexeme). u ++ z)
     (one (symbol mark.Equal) v h.first h.second h.parts w ∙ add (symbol mark.Equal) (last h.second f.first f.second f.parts f.back)) in
-    record { value = equal e f.front.value; spelled = (c ∷ u, f.first, add c text, l, f.front.spelled) }
+    record { value = equal e f.prefix.value; spelled = (c ∷ u, f.first, add c text, l, f.prefix.spelled) }
 related_by d c u v t e l is h (inr w) =
     let f = h.back in
     let text : t ≡ u ++ symbol mark.Less ∷ f.first =
     is
     ∙ ap (λ (z : List Lexeme). u ++ z)
     (one (symbol mark.Less) v h.first h.second h.parts w ∙ add (symbol mark.Less) (last h.second f.first f.second f.parts f.back)) in
-    record { value = less e f.front.value; spelled = (c ∷ u, f.first, add c text, l, f.front.spelled) }
+    record { value = less e f.prefix.value; spelled = (c ∷ u, f.first, add c text, l, f.prefix.spelled) }
 
 begun_compared : (d : ℕ) (c : Lexeme) (n : Next) → Begun (Has SpellsFormula) c n → Begun (Has SpellsTest) c (compared d n)
 begun_compared d c None h = tt
 begun_compared d c (Some new) h = λ t ts.
     let w = divided new (relation ∷ formula (suc d) ∷ []) t ts in
-    let r = h w.first w.front in
-    (r.0, r.1, related_by d r.0 w.first w.second t r.2.value r.2.spelled w.parts w.back w.back.front)
+    let r = h w.first w.prefix in
+    (r.0, r.1, related_by d r.0 w.first w.second t r.2.value r.2.spelled w.parts w.back w.back.prefix)
 
 pub begun_test : (d : ℕ) (c : Lexeme) → Begun (Has SpellsTest) c (next_test d c)
 begun_test d (keyword word.True) =
@@ -127,19 +127,19 @@ begun_test d (keyword word.Not) =
       keyword word.Not,
       refl,
       record {
-        value = negation h.front.value;
-        spelled = (h.first, add (keyword word.Not) (last t h.first h.second h.parts h.back), h.front.spelled);
+        value = negation h.prefix.value;
+        spelled = (h.first, add (keyword word.Not) (last t h.first h.second h.parts h.back), h.prefix.spelled);
       },
     )
 begun_test d (symbol mark.LeftBracket) = λ t h.
     let f = h.back.back in
     let is =
-    middle (keyword word.And) (symbol mark.RightBracket) t h h.back.front in (
+    middle (keyword word.And) (symbol mark.RightBracket) t h h.back.prefix in (
       symbol mark.LeftBracket,
       refl,
       record {
-        value = both h.front.value f.front.value;
-        spelled = (h.first, f.first, add (symbol mark.LeftBracket) is, h.front.spelled, f.front.spelled);
+        value = both h.prefix.value f.prefix.value;
+        spelled = (h.first, f.first, add (symbol mark.LeftBracket) is, h.prefix.spelled, f.prefix.spelled);
       },
     )
 begun_test d c = begun_compared d c (next_formula (suc d) c) (begun_formula (suc d) c)
@@ -168,9 +168,9 @@ named x t u v b w text e f g n k = one (name x) t u v e f ∙ add (name x) (last
 pub begun_put : (c : Lexeme) → Begun PutText c (next behind_put c)
 begun_put (symbol mark.Comma) = λ t h.
     let b = h.back in
-    let p = b.front in
-    let x = h.front.0 in
-    let is = named x t h.first h.second b.first b.second p.text h.parts h.front.1 b.parts b.back p.parts in (
+    let p = b.prefix in
+    let x = h.prefix.0 in
+    let is = named x t h.first h.second b.first b.second p.text h.parts h.prefix.1 b.parts b.back p.parts in (
       symbol mark.Comma,
       refl,
       record {
@@ -183,11 +183,11 @@ begun_put (symbol mark.Comma) = λ t h.
 begun_put (symbol mark.Ampersand) = λ t h.
     let n = h.back in
     let b = n.back in
-    let p = b.front in
-    let a = n.front.0 in
+    let p = b.prefix in
+    let a = n.prefix.0 in
     let is : t ≡ (keyword word.Reveal ∷ name a ∷ p.text) ++ symbol mark.Dot ∷ [] =
-    one (keyword word.Reveal) t h.first h.second h.parts h.front
-    ∙ add (keyword word.Reveal) (named a h.second n.first n.second b.first b.second p.text n.parts n.front.1 b.parts b.back p.parts) in
+    one (keyword word.Reveal) t h.first h.second h.parts h.prefix
+    ∙ add (keyword word.Reveal) (named a h.second n.first n.second b.first b.second p.text n.parts n.prefix.1 b.parts b.back p.parts) in
     let spelled : SpellsReveals (keyword word.Reveal ∷ name a ∷ p.text) a p.names p.condition =
     (p.test, add (keyword word.Reveal) (add (name a) p.named), p.spelled) in (
       symbol mark.Ampersand,
@@ -214,9 +214,9 @@ begun_put c = tt
 pub begun_reveal : (c : Lexeme) → Begun RevealText c (next behind_reveal c)
 begun_reveal (symbol mark.Comma) = λ t h.
     let b = h.back in
-    let p = b.front in
-    let x = h.front.0 in
-    let is = named x t h.first h.second b.first b.second p.text h.parts h.front.1 b.parts b.back p.parts in (
+    let p = b.prefix in
+    let x = h.prefix.0 in
+    let is = named x t h.first h.second b.first b.second p.text h.parts h.prefix.1 b.parts b.back p.parts in (
       symbol mark.Comma,
       refl,
       record {
@@ -231,7 +231,7 @@ begun_reveal (symbol mark.Comma) = λ t h.
     )
 begun_reveal (keyword word.If) = λ t h.
     let is : t ≡ h.first ++ symbol mark.Dot ∷ [] = h.parts ∙ ap (λ (z : List Lexeme). h.first ++ z)
-    (one (symbol mark.Dot) h.second h.back.first h.back.second h.back.parts h.back.front ∙ add (symbol mark.Dot) h.back.back) in (
+    (one (symbol mark.Dot) h.second h.back.first h.back.second h.back.parts h.back.prefix ∙ add (symbol mark.Dot) h.back.back) in (
       keyword word.If,
       refl,
       record {
@@ -239,9 +239,9 @@ begun_reveal (keyword word.If) = λ t h.
         parts = add (keyword word.If) is;
         names = [];
         test = keyword word.If ∷ h.first;
-        condition = h.front.value;
+        condition = h.prefix.value;
         named = refl;
-        spelled = inr (h.first, refl, h.front.spelled);
+        spelled = inr (h.first, refl, h.prefix.spelled);
       },
     )
 begun_reveal (symbol mark.Dot) =

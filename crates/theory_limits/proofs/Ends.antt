@@ -46,12 +46,12 @@ meant_by a as' c t None left b h e = absurd (some_end left e)
 meant_by a as' c t (Some new) left b h e =
     let m = h new e in
     let d = divided new as' m.meant m.texts in
-    let r = b d.first d.front in
+    let r = b d.first d.prefix in
     record {
       meant = r.0 ∷ m.meant;
       stand = (r.1, m.stand);
       texts =
-          record { first = r.0 ∷ d.first; second = d.second; parts = add r.0 d.parts; front = r.2; back = d.back };
+          record { first = r.0 ∷ d.first; second = d.second; parts = add r.0 d.parts; prefix = r.2; back = d.back };
     }
 
 meant_is : (as' : List Awaited) (t : List Lexeme) → end_from as' t ≡ None → Meant as' t
@@ -114,12 +114,12 @@ fills (a ∷ as') = filled a as' (fills as')
 
 -- the walk comes to these tokens with these parts awaited, and the first of them can't come
 record Halts (as' : List Awaited) (t : List Lexeme) (left : ℕ) : Type 0 where
-  front : List Lexeme
+  prefix : List Lexeme
   rest : List Lexeme
   awaited : List Awaited
-  parts : t ≡ front ++ rest
+  parts : t ≡ prefix ++ rest
   left_is : length rest ≡ left
-  goes : (u : List Lexeme) → end_from as' (front ++ u) ≡ end_from awaited u
+  goes : (u : List Lexeme) → end_from as' (prefix ++ u) ≡ end_from awaited u
   stops : (c : Lexeme) (after u : List Lexeme) → rest ≡ c ∷ after → end_from awaited (c ∷ u) ≡ Some (suc (length u))
 
 end_is : (m n : ℕ) → an_end m ≡ an_end n → m ≡ n
@@ -133,7 +133,7 @@ halts_by : (a : Awaited) (as' : List Awaited) (c : Lexeme) (t : List Lexeme) (le
     → ((new : List Awaited) → end_from (new ++ as') t ≡ an_end left → Halts (new ++ as') t left)
     → end_here n (suc (length t)) (λ new. end_from (new ++ as') t) ≡ an_end left → Halts (a ∷ as') (c ∷ t) left
 halts_by a as' c t left None e h k = record {
-  front = [];
+  prefix = [];
   rest = c ∷ t;
   awaited = a ∷ as';
   parts = refl;
@@ -146,12 +146,12 @@ halts_by a as' c t left None e h k = record {
 halts_by a as' c t left (Some new) e h k =
     let r = h new k in
     record {
-      front = c ∷ r.front;
+      prefix = c ∷ r.prefix;
       rest = r.rest;
       awaited = r.awaited;
       parts = add c r.parts;
       left_is = r.left_is;
-      goes = λ u. ap (λ (z : Next). end_here z (suc (length (r.front ++ u))) (λ new. end_from (new ++ as') (r.front ++ u))) e ∙ r.goes u;
+      goes = λ u. ap (λ (z : Next). end_here z (suc (length (r.prefix ++ u))) (λ new. end_from (new ++ as') (r.prefix ++ u))) e ∙ r.goes u;
       stops = r.stops;
     }
 
@@ -159,7 +159,7 @@ halts_is : (as' : List Awaited) (t : List Lexeme) (left : ℕ) → end_from as' 
 halts_is [] [] left e = absurd (some_end left (sym e))
 halts_is (a ∷ as') [] left e =
     record {
-      front = [];
+      prefix = [];
       rest = [];
       awaited = a ∷ as';
       parts = refl;
@@ -169,7 +169,7 @@ halts_is (a ∷ as') [] left e =
     }
 halts_is [] (c ∷ t) left e =
     record {
-      front = [];
+      prefix = [];
       rest = c ∷ t;
       awaited = [];
       parts = refl;
@@ -212,35 +212,35 @@ begins_comes t b = (
       ∙ spelled_advert (b.meant ++ b.more) b.advert b.spelled,
 )
 
--- no front begins an advert that goes past the next token
-not_past : (t front rest : List Lexeme) (awaited : List Awaited) (q : ℕ) → t ≡ front ++ rest
-    → ((u : List Lexeme) → end_from an_advert (front ++ u) ≡ end_from awaited u)
-    → ((c : Lexeme) (after u : List Lexeme) → rest ≡ c ∷ after → end_from awaited (c ∷ u) ≡ an_end (suc (length u))) → length front < q
+-- no prefix begins an advert that goes past the next token
+not_past : (t prefix rest : List Lexeme) (awaited : List Awaited) (q : ℕ) → t ≡ prefix ++ rest
+    → ((u : List Lexeme) → end_from an_advert (prefix ++ u) ≡ end_from awaited u)
+    → ((c : Lexeme) (after u : List Lexeme) → rest ≡ c ∷ after → end_from awaited (c ∷ u) ≡ an_end (suc (length u))) → length prefix < q
     → q ≤ length t → Begins (take q t) → ⊥
-not_past t front [] awaited q parts goes stops lt le b = let len : length t ≡ length front + 0 = ap length parts
-    ∙ length-append front [] in absurd (omega arith)
-not_past t front (c ∷ after) awaited q parts goes stops lt le b =
-    let k : ℕ = q - suc (length front) in
-    let n : q ≡ length front + suc k = omega arith in
-    let fronts : take q t ≡ front ++ c ∷ take k after =
-    ap (take q) parts ∙ ap (λ (m : ℕ). take m (front ++ c ∷ after)) n ∙ take-append-add front (c ∷ after) (suc k) in
+not_past t prefix [] awaited q parts goes stops lt le b = let len : length t ≡ length prefix + 0 = ap length parts
+    ∙ length-append prefix [] in absurd (omega arith)
+not_past t prefix (c ∷ after) awaited q parts goes stops lt le b =
+    let k : ℕ = q - suc (length prefix) in
+    let n : q ≡ length prefix + suc k = omega arith in
+    let prefixes : take q t ≡ prefix ++ c ∷ take k after =
+    ap (take q) parts ∙ ap (λ (m : ℕ). take m (prefix ++ c ∷ after)) n ∙ take-append-add prefix (c ∷ after) (suc k) in
     let m = begins_comes (take q t) b in
-    let text : take q t ++ m.0 ≡ front ++ c ∷ (take k after ++ m.0) =
-    ap (λ (z : List Lexeme). z ++ m.0) fronts ∙ append_assoc front (c ∷ take k after) m.0 in
+    let text : take q t ++ m.0 ≡ prefix ++ c ∷ (take k after ++ m.0) =
+    ap (λ (z : List Lexeme). z ++ m.0) prefixes ∙ append_assoc prefix (c ∷ take k after) m.0 in
     some_end (suc (length (take k after ++ m.0)))
     (sym (stops c after (take k after ++ m.0) refl) ∙ sym (goes (c ∷ (take k after ++ m.0))) ∙ sym (ap grammar_end text) ∙ m.1)
 
 ends_at : (t : List Lexeme) (left : ℕ) → grammar_end t ≡ an_end left → Halts an_advert t left → IsSyntaxAt t (length t - left)
 ends_at t left e h =
-    let len : length t ≡ length h.front + length h.rest = ap length h.parts ∙ length-append h.front h.rest in
-    let place : length t - left ≡ length h.front = omega (arith, h.left_is) in
-    let fronts : take (length h.front) t ≡ h.front = ap (take (length h.front)) h.parts ∙ take_at h.front h.rest (length h.front) refl in
+    let len : length t ≡ length h.prefix + length h.rest = ap length h.parts ∙ length-append h.prefix h.rest in
+    let place : length t - left ≡ length h.prefix = omega (arith, h.left_is) in
+    let prefixes : take (length h.prefix) t ≡ h.prefix = ap (take (length h.prefix)) h.parts ∙ take_at h.prefix h.rest (length h.prefix) refl in
     let u = fills h.awaited in
-    let front : Begins h.front = begins_is h.front u.text (h.goes u.text ∙ u.all) in
+    let prefix : Begins h.prefix = begins_is h.prefix u.text (h.goes u.text ∙ u.all) in
     rw place (record {
       within = omega arith;
-      begins = subst Begins (sym fronts) front;
-      longest = λ q lt le b. not_past t h.front h.rest h.awaited q h.parts h.goes h.stops lt le b;
+      begins = subst Begins (sym prefixes) prefix;
+      longest = λ q lt le b. not_past t h.prefix h.rest h.awaited q h.parts h.goes h.stops lt le b;
       none = λ advert s. some_end left (sym e ∙ spelled_advert t advert s);
     })
 

@@ -18,4 +18,4 @@ pub mod TextPlaces
 pub mod Fitting
 pub mod Listed
 pub mod ListedAdverts
-pub mod Worked
+pub mod Vectors

@@ -106,7 +106,7 @@ pub record Joined (L M : List Lexeme → Type 0) (t : List Lexeme) : Type 0 wher
   pub first : List Lexeme
   pub second : List Lexeme
   pub parts : t ≡ first ++ second
-  pub front : L first
+  pub prefix : L first
   pub back : M second
 
 -- what spells parts one after the other
@@ -115,14 +115,14 @@ Texts [] t = t ≡ []
 Texts (a ∷ as') t = Joined (Text a) (Texts as') t
 
 pub divided : (as' bs : List Awaited) (t : List Lexeme) → Texts (as' ++ bs) t → Joined (Texts as') (Texts bs) t
-divided [] bs t h = record { first = []; second = t; parts = refl; front = refl; back = h }
+divided [] bs t h = record { first = []; second = t; parts = refl; prefix = refl; back = h }
 divided (a ∷ as') bs t h =
     let r = divided as' bs h.second h.back in
     record {
       first = h.first ++ r.first;
       second = r.second;
       parts = h.parts ∙ ap (λ (z : List Lexeme). h.first ++ z) r.parts ∙ sym (append_assoc h.first r.first r.second);
-      front = record { first = h.first; second = r.first; parts = refl; front = h.front; back = r.front };
+      prefix = record { first = h.first; second = r.first; parts = refl; prefix = h.prefix; back = r.prefix };
       back = r.back;
     }
 

@@ -1,4 +1,5 @@
-//! Where the limits of contract text are met: each theorem is the contract of a function that does nothing.
+//! Theorems on the limits of contract text: the reader stops at the first token that exceeds one, and what stays within
+//! all of them is read. Each is the contract of a function that does nothing.
 #![tactic(auto)]
 
 ghost use Rattle.theory_limits.specs.Statements.{OneAdvertTheorem, LimitsTheorem, TextLimitsTheorem};

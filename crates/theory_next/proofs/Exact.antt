@@ -1,13 +1,13 @@
--- What is wanting for an event is exactly what fails.
+-- What is missing for an event is exactly what fails.
 use Rattle.std.proofs.Common.{◌≡◌, List, [], ◌∷◌, map, Bool, true, false, refl, sym, ap, ◌∙◌, subst, inl, inr}
 use Rattle.std.specs.Prelude.{not, ◌&&◌, if◌then◌else◌}
 use Rattle.std.specs.List.{filter, list_all}
 use Rattle.std.proofs.lemmas.Bool.{and_parts}
-use Rattle.spec_next.specs.declared.want.Want.{Want}
-use Rattle.spec_next.specs.Wants.{Condition, unmet, conditions, wants_of}
+use Rattle.spec_next.specs.declared.requirement.Requirement.{Requirement}
+use Rattle.spec_next.specs.Requirements.{Condition, unmet, conditions, requirements_of}
 use Rattle.theory_calculus.specs.Members.{Is_in}
 use Rattle.theory_calculus.proofs.Members.{in_from_contains, contains_from_in, in_filter, filter_has}
-use Rattle.theory_next.specs.Wants.{IsFailing, WantsAreExactTheorem}
+use Rattle.theory_next.specs.Requirements.{IsFailing, RequirementsAreExactTheorem}
 
 -- ---- lists
 
@@ -50,22 +50,22 @@ none_unmet (c ∷ cs) h =
 pub fails_in : (cs : List Condition) (c : Condition) → Is_in c cs → c.0 ≡ false → Is_in (c.1) (unmet cs)
 fails_in cs c i h = in_map (λ (d : Condition). d.1) (filter fails cs) c (filter_has fails cs c i (ap not h))
 
-pub is_failing : (cs : List Condition) (x : Want) → Is_in x (unmet cs) → IsFailing cs x
+pub is_failing : (cs : List Condition) (x : Requirement) → Is_in x (unmet cs) → IsFailing cs x
 is_failing cs x h =
     let m = from_map (λ (c : Condition). c.1) (filter fails cs) x h in
     let f = in_filter fails cs m.0 m.1 in
-    record { condition = m.0; there = contains_from_in cs m.0 f.0; fails = is_false (m.0.0) f.1; wanting = sym m.2 }
+    record { condition = m.0; there = contains_from_in cs m.0 f.0; fails = is_false (m.0.0) f.1; outstanding = sym m.2 }
 
-is_unmet : (cs : List Condition) (x : Want) → IsFailing cs x → Is_in x (unmet cs)
-is_unmet cs x f = subst (λ y. Is_in y (unmet cs)) f.wanting (fails_in cs f.condition (in_from_contains cs f.condition f.there) f.fails)
+is_unmet : (cs : List Condition) (x : Requirement) → IsFailing cs x → Is_in x (unmet cs)
+is_unmet cs x f = subst (λ y. Is_in y (unmet cs)) f.outstanding (fails_in cs f.condition (in_from_contains cs f.condition f.there) f.fails)
 
-pub exact : WantsAreExactTheorem
+pub exact : RequirementsAreExactTheorem
 exact s g w e =
     let cs = conditions s g w e in
     record {
       failing = λ x. (
-        λ h. is_failing cs x (in_from_contains (wants_of s g w e) x h),
-        λ f. contains_from_in (wants_of s g w e) x
+        λ h. is_failing cs x (in_from_contains (requirements_of s g w e) x h),
+        λ f. contains_from_in (requirements_of s g w e) x
             (is_unmet cs x f),
       );
       nothing = (λ h. all_met cs h, λ h. none_unmet cs h);

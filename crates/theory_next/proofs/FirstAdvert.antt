@@ -14,12 +14,12 @@ use Rattle.spec_calculus.specs.declared.step.Owner.TheVariants.{Party}
 use Rattle.spec_run.specs.declared.event.Event.TheVariants as events
 use Rattle.spec_run.specs.Setup.{Setup, is_declared, is_honest, people_at, people_of, pre_at, pre_of}
 use Rattle.spec_run.specs.World.{Output, World, output_at, is_deposit}
-use Rattle.spec_run.specs.Draft.{done, settled, unless}
+use Rattle.spec_run.specs.Pending.{done, applied, unless}
 use Rattle.spec_run.specs.Owners.{paid_to, owner_by, suits}
 use Rattle.spec_run.specs.Advertising.{are_rearranged, arranged, repeated, not_live, unsuited, deposit_names, advertise_row}
 use Rattle.spec_run.specs.Ledger.{made_from}
 use Rattle.spec_run.specs.Conditions.{IsSetup}
-use Rattle.spec_run.specs.Event.{draft, holds_nothing, opening_outputs, opening_world, opening_collision}
+use Rattle.spec_run.specs.Event.{pending, holds_nothing, opening_outputs, opening_world, opening_collision}
 use Rattle.spec_run.specs.Translation.{opening_configuration}
 use Rattle.spec_next.specs.FirstLines.{owned, bound_from}
 use Rattle.theory_calculus.specs.Members.{Is_in}
@@ -173,7 +173,7 @@ module _ (s : Setup) (advert : Advert) (first : IsFirst s advert) (setup : IsSet
     advertised = w.advertised ++ record { contract = 0; bindings = arranged 0 (deposit_names s 0) bindings } ∷ [];
   }
 
-  pub advertises : draft s w (events.Advertise 0 bindings) ≡ done advertised_world []
+  pub advertises : pending s w (events.Advertise 0 bindings) ≡ done advertised_world []
   advertises =
       let pre : pre_at s 0 ≡ advert.pre = ap pre_of first.there in
       let names : deposit_names s 0 ≡ names_of ds = ap (λ p. names_of (deposits p)) pre in
@@ -208,7 +208,7 @@ module _ (s : Setup) (advert : Advert) (first : IsFirst s advert) (setup : IsSet
       ap (λ r. unless r w [] (done advertised_world [])) row
 
   -- nobody has committed then
-  pub none_committed : Committing s advert (participants advert) (settled w (done advertised_world []))
+  pub none_committed : Committing s advert (participants advert) (applied w (done advertised_world []))
   none_committed = record {
     told = refl;
     live = record { live = λ n o h. let r = get-made holds_nothing id 0 n (opening_outputs s) o h in ap (λ (x : Output). x.live) r.2 };

@@ -14,11 +14,11 @@ use Rattle.spec_run.specs.declared.outcome.Reason.{Reason}
 use Rattle.spec_run.specs.Setup.{Setup, is_honest}
 use Rattle.spec_run.specs.World.{Promise, World, is_advertised, is_promise_of, has_promised, have_promised}
 use Rattle.spec_run.specs.Compiled.{compiled_instance, instance_of}
-use Rattle.spec_run.specs.Draft.{Draft, guess, settled, unless}
+use Rattle.spec_run.specs.Pending.{Pending, guess, applied, unless}
 use Rattle.spec_run.specs.Advertising.{arranged, are_rearranged}
 use Rattle.spec_run.specs.Committing.{secrets_at, own_digests, own_strings, missing_secret, bad_secret, committed_digests, committed_strings, used_digests, used_again}
-use Rattle.spec_run.specs.Committing.{commit_row, repeated_digest, digest_row, with_promise, strings_compiled, committed_draft, not_held, badly_long}
-use Rattle.spec_run.specs.Event.{draft, played}
+use Rattle.spec_run.specs.Committing.{commit_row, repeated_digest, digest_row, with_promise, strings_compiled, committed_pending, not_held, badly_long}
+use Rattle.spec_run.specs.Event.{pending, played}
 use Rattle.spec_run.specs.Values.{is_refused}
 use Rattle.spec_run.specs.Translation.{last_world}
 use Rattle.spec_terms.specs.Precondition.{names_of}
@@ -106,10 +106,10 @@ module _ (s : Setup) (advert : Advert) (first : IsFirst s advert) (has : HasSecr
       abbrev strings : List (List ℕ)
       strings = committed_strings s 0 party
 
-      abbrev committed : Draft
-      committed = committed_draft s next 0 party strings
+      abbrev committed : Pending
+      committed = committed_pending s next 0 party strings
 
-      behind_row : draft s w e ≡ unless (first_reason (digest_row s w 0 party [])) w strings committed
+      behind_row : pending s w e ≡ unless (first_reason (digest_row s w 0 party [])) w strings committed
       behind_row =
           ap (λ r. unless r w [] (unless (first_reason (digest_row s w 0 party [])) w strings committed))
           (row_is w so_far.told (so_far.ahead party (inl refl)))
@@ -135,17 +135,17 @@ module _ (s : Setup) (advert : Advert) (first : IsFirst s advert) (has : HasSecr
           none_reason (digest_row s w 0 party []) (ap is_some none, tt)
 
       -- where nothing collides it is done
-      commits : collision s.hash w.hashed (draft s w e).hashes ≡ None → draft s w e ≡ committed
+      commits : collision s.hash w.hashed (pending s w e).hashes ≡ None → pending s w e ≡ committed
       commits calm = behind_row ∙ by_reason (first_reason (digest_row s w 0 party [])) refl
         where
           by_reason : (o : Option Reason) → first_reason (digest_row s w 0 party []) ≡ o → unless o w strings committed ≡ committed
           by_reason None q = refl
           by_reason (Some r) q =
               let c : collision s.hash w.hashed strings ≡ None =
-              sym (ap (λ (d : Draft). collision s.hash w.hashed d.hashes) (behind_row ∙ ap (λ o. unless o w strings committed) q)) ∙ calm in
+              sym (ap (λ (d : Pending). collision s.hash w.hashed d.hashes) (behind_row ∙ ap (λ o. unless o w strings committed) q)) ∙ calm in
               let z = sym q ∙ fresh c in cc
 
-      unguessed : (x : HeldSecret) → guess s w.posted (draft s w e).posts (draft s w e).allowed ≡ Some x → ⊥
+      unguessed : (x : HeldSecret) → guess s w.posted (pending s w e).posts (pending s w e).allowed ≡ Some x → ⊥
       unguessed x h =
           let q = sym (by_reasons (first_reason (commit_row s w 0 party [])) (first_reason (digest_row s w 0 party []))) ∙ h in cc
         where
@@ -165,7 +165,7 @@ module _ (s : Setup) (advert : Advert) (first : IsFirst s advert) (has : HasSecr
           (subst (λ ds. is_among d (digests_in ds) ≡ true) (ap (arranged [] names) digests_are ∙ own_in_order s party names) h)
 
       -- one more has committed
-      committed_so : Committing s advert rest (settled w committed)
+      committed_so : Committing s advert rest (applied w committed)
       committed_so = record {
         told = so_far.told;
         live = record { live = so_far.live.live };
@@ -229,10 +229,10 @@ module _ (s : Setup) (advert : Advert) (first : IsFirst s advert) (has : HasSecr
     all_commit (party ∷ rest) apart take es so so_far =
         let takes = take party (inl refl) in
         goes s es so (events.Commit 0 party []) (first.declared party takes, tt) (map (λ p. events.Commit 0 p []) rest ++ after)
-        (λ calm. ap (λ (d : Draft). is_refused d.outcome) (commits party takes es so rest apart.0 so_far calm))
+        (λ calm. ap (λ (d : Pending). is_refused d.outcome) (commits party takes es so rest apart.0 so_far calm))
         (λ pair h. tt)
         (λ x calm h. absurd (unguessed party takes es so rest apart.0 so_far x h))
         (λ calm on.
-        let world = on.world ∙ ap (settled (last_world s es)) (commits party takes es so rest apart.0 so_far calm) in
+        let world = on.world ∙ ap (applied (last_world s es)) (commits party takes es so rest apart.0 so_far calm) in
         all_commit rest apart.1 (λ p i. take p (inr i)) (es ++ events.Commit 0 party [] ∷ []) on.so_far
         (subst (Committing s advert rest) (sym world) (committed_so party takes es so rest apart.0 so_far)))

@@ -114,7 +114,7 @@ outcomes_pass : (s : Setup) (z : List (List ℕ)) (ps : List Passed) (g : Config
     → list_all (λ (r : Record). not (is_refused r.outcome)) (map record_in (turns_from s z g w ps)) ≡ true
 outcomes_pass s z [] g w h = refl
 outcomes_pass s z (p ∷ ps) g w h =
-    let q = and_parts (not (is_refused p.draft.outcome)) (list_all (λ (x : Passed). not (is_refused x.draft.outcome)) ps) h in
+    let q = and_parts (not (is_refused p.pending.outcome)) (list_all (λ (x : Passed). not (is_refused x.pending.outcome)) ps) h in
     and_from _ _ q.0 (outcomes_pass s z ps (turn_of s z g w p).configuration p.world q.1)
 
 pub goes_through : (s : Setup) (es : List Event) → IsRun s es → Fine s (played s es) → GoesThroughOrHalts s es

@@ -25,11 +25,11 @@ use Rattle.spec_run.specs.declared.outcome.Reason.TheVariants as reason
 use Rattle.spec_run.specs.Setup.{Setup, is_declared}
 use Rattle.spec_run.specs.World.{World, bindings_at, have_promised}
 use Rattle.spec_run.specs.Compiled.{compiled_instance}
-use Rattle.spec_run.specs.Draft.{Draft, Guessed, is_guessed, guess, unless}
+use Rattle.spec_run.specs.Pending.{Pending, Guessed, is_guessed, guess, unless}
 use Rattle.spec_run.specs.Giving.{deposit_witness}
 use Rattle.spec_run.specs.Firing.{witnessed, deposit_witnesses, initial_witnesses, initial_transaction, initial_by, reaches_if, fire_init_row}
 use Rattle.spec_run.specs.Ledger.{accepted, judged, items_of, initial_of, kind_by, first_position, begun_after}
-use Rattle.spec_run.specs.Event.{draft, played}
+use Rattle.spec_run.specs.Event.{pending, played}
 use Rattle.spec_run.specs.Steps.{is_bound_live}
 use Rattle.spec_run.specs.Values.{is_refused}
 use Rattle.spec_run.specs.Offers.{Offer}
@@ -185,23 +185,23 @@ module _ (s : Setup) (advert : Advert) (first : IsFirst s advert)
     tx_is : kept.tx ≡ initial_transaction s st
     tx_is = let q = sym kept.fires ∙ ap (initial_by s) compiled in cc
 
-    draft_is : draft s w e ≡ accepted s w kept.tx kept.spent
-    draft_is =
+    pending_is : pending s w e ≡ accepted s w kept.tx kept.spent
+    pending_is =
         let row : first_reason (fire_init_row s w 0) ≡ None =
         ap (λ b. first_reason ((not b, reason.NoContract) ∷ (not (is_some (compiled_instance s w 0)), reason.NotCompiled) ∷ []))
         (has_first s advert first)
         ∙ ap (λ o. first_reason ((not (is_some o), reason.NotCompiled) ∷ [])) compiled in
         (λ i. unless (row i) w [] (reaches_if s w (kept.fires i))) ∙ ap (judged s w w kept.tx) kept.accepts
 
-    posts_are : (draft s w e).posts ≡ items_of (initial_transaction s st)
-    posts_are = ap (λ (d : Draft). d.posts) draft_is ∙ ap items_of tx_is
+    posts_are : (pending s w e).posts ≡ items_of (initial_transaction s st)
+    posts_are = ap (λ (d : Pending). d.posts) pending_is ∙ ap items_of tx_is
 
     -- what is guessed is what a deposit is spent with
-    guessed : (x : HeldSecret) → guess s w.posted (draft s w e).posts (draft s w e).allowed ≡ Some x → MayHalt s e (Guessed x.party x.name)
+    guessed : (x : HeldSecret) → guess s w.posted (pending s w e).posts (pending s w e).allowed ≡ Some x → MayHalt s e (Guessed x.party x.name)
     guessed x h =
-        let f = found (is_guessed w.posted (draft s w e).posts (draft s w e).allowed) s.header.secrets x h in
-        let a = and_parts (is_among x.bytes (draft s w e).posts && not (is_among x.bytes w.posted)) _ f.1 in
-        let posted = (and_parts (is_among x.bytes (draft s w e).posts) _ a.0).0 in
+        let f = found (is_guessed w.posted (pending s w e).posts (pending s w e).allowed) s.header.secrets x h in
+        let a = and_parts (is_among x.bytes (pending s w e).posts && not (is_among x.bytes w.posted)) _ f.1 in
+        let posted = (and_parts (is_among x.bytes (pending s w e).posts) _ a.0).0 in
         let own : (d : List ℕ × Holding) → Is_in d (persistent st.advert.pre) → is_declared s (d.1).owner ≡ true =
         λ d i. owned d (subst (λ (a : Advert). Is_in d (persistent a.pre))
         (ap (λ (x : Instance). x.advert) is.is ∙ same) i) in
@@ -226,9 +226,9 @@ module _ (s : Setup) (advert : Advert) (first : IsFirst s advert)
             let c = compiled_is s w k it.instance it.compiled in
             ap Some (first.only k c.advert c.there)
 
-    begun_then : (draft s w e).world.begun ≡ w.begun ++ 0 ∷ []
+    begun_then : (pending s w e).world.begun ≡ w.begun ++ 0 ∷ []
     begun_then =
-        ap (λ (d : Draft). d.world.begun) draft_is
+        ap (λ (d : Pending). d.world.begun) pending_is
         ∙ ap (λ o. begun_after (kind_by s kept.tx kept.spent o (first_position w kept.spent)) w.begun) begins_it
 
     number_there : (ns : List ℕ) → has_number 0 (ns ++ 0 ∷ []) ≡ true
@@ -237,7 +237,7 @@ module _ (s : Setup) (advert : Advert) (first : IsFirst s advert)
 
     pub begins : Fine s (played s (es ++ e ∷ []))
     begins = goes s es so e tt []
-        (λ calm. ap (λ (d : Draft). is_refused d.outcome) draft_is)
+        (λ calm. ap (λ (d : Pending). is_refused d.outcome) pending_is)
         (λ pair h. tt)
         (λ x calm h. guessed x h)
         (λ calm on.

@@ -19,9 +19,9 @@ use Rattle.spec_run.specs.declared.event.Event.TheVariants as events
 use Rattle.spec_run.specs.Setup.{Setup, pre_at, pre_of}
 use Rattle.spec_run.specs.World.{World}
 use Rattle.spec_run.specs.Compiled.{compiled_instance}
-use Rattle.spec_run.specs.Draft.{done, settled, unless}
+use Rattle.spec_run.specs.Pending.{done, applied, unless}
 use Rattle.spec_run.specs.Signing.{signed_all, with_pairs, needs_at, pairs_of_party, endorsing_pairs, endorse_row, initial_pairs, missing_need, missed_need, init_row}
-use Rattle.spec_run.specs.Event.{draft, played}
+use Rattle.spec_run.specs.Event.{pending, played}
 use Rattle.spec_run.specs.Steps.{is_of_party, is_bound_live, init_steps}
 use Rattle.spec_run.specs.Translation.{last_configuration, last_world}
 use Rattle.theory_calculus.specs.Members.{Is_in}
@@ -60,7 +60,7 @@ module _ (s : Setup) (advert : Advert) (first : IsFirst s advert) where
     abbrev started_world : World
     started_world = with_pairs w (initial_pairs s party (compiled_instance s w 0))
 
-    started : all_met w.book (needs_at s st) ≡ true → draft s w (events.Init 0 party) ≡ done started_world []
+    started : all_met w.book (needs_at s st) ≡ true → pending s w (events.Init 0 party) ≡ done started_world []
     started endorsed =
         let none : missing_endorsement s.hash st w.book ≡ None = none_is _ (none_unmet w.book (needs_at s st) ∙ endorsed) in
         let missed : missed_need s w 0 party ≡ None =
@@ -78,7 +78,7 @@ module _ (s : Setup) (advert : Advert) (first : IsFirst s advert) where
     abbrev endorsed_world : World
     endorsed_world = with_pairs w (endorsing_pairs s party (compiled_instance s w 0))
 
-    pub endorses : draft s w (events.Endorse 0 party) ≡ done endorsed_world []
+    pub endorses : pending s w (events.Endorse 0 party) ≡ done endorsed_world []
     endorses =
         let row : first_reason (endorse_row s w 0 party) ≡ None =
         none_reason (endorse_row s w 0 party) (
@@ -102,7 +102,7 @@ module _ (s : Setup) (advert : Advert) (first : IsFirst s advert) where
         → (takes : is_among party (participants advert) ≡ true)
         → (start : Starting st (party ∷ rest) (last_configuration s es) (last_world s es))
         → Starting st rest (after_steps (last_configuration s es) (init_steps s (last_world s es) 0 party))
-        (settled (last_world s es) (done (started_world es so st party takes start.compiled) []))
+        (applied (last_world s es) (done (started_world es so st party takes start.compiled) []))
     started_so party rest es so takes start =
         let w = last_world s es in
         let g = last_configuration s es in
@@ -146,7 +146,7 @@ module _ (s : Setup) (advert : Advert) (first : IsFirst s advert) where
         let later = started_so party rest es so takes start in
         all_start rest (λ p i. take p (inr i)) (es ++ e ∷ []) further
         (subst (Starting st rest (last_configuration s (es ++ e ∷ []))) (sym world)
-        (subst (λ g. Starting st rest g (settled (last_world s es) (done next []))) (sym reached) later)))
+        (subst (λ g. Starting st rest g (applied (last_world s es) (done next []))) (sym reached) later)))
 
   -- ---- endorsing
 
@@ -186,7 +186,7 @@ module _ (s : Setup) (advert : Advert) (first : IsFirst s advert) where
       (ending : (es : List Event) → GoesSoFar s es → Endorsing st [] (last_world s es) → Fine s (played s (es ++ after))) where
     endorsed_so : (party : List ℕ) (rest : List (List ℕ)) (es : List Event) (so : GoesSoFar s es)
         → (takes : is_among party (participants advert) ≡ true) → (so_far : Endorsing st (party ∷ rest) (last_world s es))
-        → Endorsing st rest (settled (last_world s es) (done (endorsed_world es so st party takes so_far.compiled) []))
+        → Endorsing st rest (applied (last_world s es) (done (endorsed_world es so st party takes so_far.compiled) []))
     endorsed_so party rest es so takes so_far =
         let w = last_world s es in
         let pairs = endorsing_pairs s party (compiled_instance s w 0) in

@@ -13,8 +13,8 @@ use Rattle.spec_run.specs.declared.outcome.Reason.{Reason}
 use Rattle.spec_run.specs.declared.outcome.Reason.TheVariants as reason
 use Rattle.spec_run.specs.Setup.{Setup, is_honest, people_at}
 use Rattle.spec_run.specs.World.{World}
-use Rattle.spec_run.specs.Draft.{Draft, guess, settle, unless}
-use Rattle.spec_run.specs.Event.{draft}
+use Rattle.spec_run.specs.Pending.{Pending, guess, apply, unless}
+use Rattle.spec_run.specs.Event.{pending}
 use Rattle.spec_run.specs.Advertising.{advertise_row}
 use Rattle.spec_run.specs.Committing.{missing_secret, bad_secret, commit_row, digest_row}
 use Rattle.spec_next.specs.declared.outlook.Ruling.TheVariants as rulings
@@ -55,8 +55,8 @@ is_refused_by (q ∷ qs) p (inr i) h = by_test (q.0) (is_refused_by qs p i h)
 
 -- ---- rulings
 
-refused_outcome : (w : World) (d : Draft) (c : Option (List ℕ × List ℕ)) (u : Option HeldSecret) (why : Reason)
-    → ruling_of (settle w d c u) ≡ rulings.Cannot why → d.outcome ≡ outcomes.Refused why
+refused_outcome : (w : World) (d : Pending) (c : Option (List ℕ × List ℕ)) (u : Option HeldSecret) (why : Reason)
+    → ruling_of (apply w d c u) ≡ rulings.Cannot why → d.outcome ≡ outcomes.Refused why
 refused_outcome w d (Some pair) u why h = cc
 refused_outcome w d None (Some held) why h = cc
 refused_outcome w d None None why h = by_outcome d.outcome h
@@ -66,15 +66,15 @@ refused_outcome w d None None why h = by_outcome d.outcome h
     by_outcome (outcomes.Accepted spent made lock) q = cc
     by_outcome (outcomes.Refused other) q = let e : other ≡ why = cc in ap outcomes.Refused e
 
-not_refused : (w : World) (d : Draft) (c : Option (List ℕ × List ℕ)) (u : Option HeldSecret) (why : Reason)
-    → ruling_of (settle w d c u) ≡ rulings.Can → d.outcome ≡ outcomes.Refused why → ⊥
+not_refused : (w : World) (d : Pending) (c : Option (List ℕ × List ℕ)) (u : Option HeldSecret) (why : Reason)
+    → ruling_of (apply w d c u) ≡ rulings.Can → d.outcome ≡ outcomes.Refused why → ⊥
 not_refused w d (Some pair) u why h e = cc
 not_refused w d None (Some held) why h e = cc
 not_refused w d None None why h e = let q : rulings.Cannot why ≡ rulings.Can = sym (ap ruling_by e) ∙ h in cc
 
 module _ (s : Setup) (w : World) (e : Event) where
-  abbrev d : Draft
-  d = draft s w e
+  abbrev d : Pending
+  d = pending s w e
 
   outcome_of : (why : Reason) → ruling s w e ≡ rulings.Cannot why → d.outcome ≡ outcomes.Refused why
   outcome_of why h = refused_outcome w d (collision s.hash w.hashed d.hashes) (guess s w.posted d.posts d.allowed) why h
@@ -82,20 +82,20 @@ module _ (s : Setup) (w : World) (e : Event) where
   never_refused : (why : Reason) → ruling s w e ≡ rulings.Can → d.outcome ≡ outcomes.Refused why → ⊥
   never_refused why h q = not_refused w d (collision s.hash w.hashed d.hashes) (guess s w.posted d.posts d.allowed) why h q
 
--- ---- drafts
+-- ---- pending effects
 
-by_first : (o : Option Reason) (w : World) (strings : List (List ℕ)) (later : Draft) (why : Reason)
+by_first : (o : Option Reason) (w : World) (strings : List (List ℕ)) (later : Pending) (why : Reason)
     → (unless o w strings later).outcome ≡ outcomes.Refused why → (o ≡ Some why) ⊎ (later.outcome ≡ outcomes.Refused why)
 by_first None w strings later why h = inr h
 by_first (Some other) w strings later why h = let e : other ≡ why = cc in inl (ap Some e)
 
 -- where a test of the row is true, the event can't come
-module _ (s : Setup) (w : World) (e : Event) (row : List (Bool × Reason)) (later : Draft) (is : draft s w e ≡ unless (first_reason row) w [] later) where
+module _ (s : Setup) (w : World) (e : Event) (row : List (Bool × Reason)) (later : Pending) (is : pending s w e ≡ unless (first_reason row) w [] later) where
   stops : (p : Bool × Reason) → Is_in p row → p.0 ≡ true → ruling s w e ≡ rulings.Can → ⊥
   stops p i t h =
       let r = is_refused_by row p i t in
       never_refused s w e r.0 h
-      (ap (λ (x : Draft). x.outcome) is ∙ ap (λ o. (unless o w [] later).outcome) r.1)
+      (ap (λ (x : Pending). x.outcome) is ∙ ap (λ o. (unless o w [] later).outcome) r.1)
 
 -- ---- the claims
 

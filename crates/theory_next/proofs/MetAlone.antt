@@ -1,4 +1,4 @@
--- Where one thing alone is wanting for a branch and is met, the branch can be taken.
+-- Where one thing alone is missing for a branch and is met, the branch can be taken.
 use Rattle.std.proofs.Common.{◌≡◌, ℕ, ◌+◌, ◌-◌, ◌<◌, ◌≤◌, List, [], ◌∷◌, ◌++◌, Bool, true, false, Option, Some, None, refl, sym, ap, ◌∙◌}
 use Rattle.std.proofs.Common.{subst, arith, inl, inr, ◌⊎◌}
 use Rattle.std.specs.Prelude.{not, cond, if◌then◌else◌, nat_le, is_some, slice_get}
@@ -22,16 +22,16 @@ use Rattle.spec_run.specs.declared.event.Event.TheVariants as events
 use Rattle.spec_run.specs.declared.outcome.Reason.TheVariants as reason
 use Rattle.spec_run.specs.Setup.{Setup, is_declared}
 use Rattle.spec_run.specs.World.{ContractPosition, Output, World, live_position, live_position_at}
-use Rattle.spec_run.specs.Draft.{done, unless}
-use Rattle.spec_run.specs.Event.{mine_row, draft}
+use Rattle.spec_run.specs.Pending.{done, unless}
+use Rattle.spec_run.specs.Event.{mine_row, pending}
 use Rattle.spec_run.specs.Ledger.{position_branch}
 use Rattle.spec_run.specs.Signing.{with_pairs, asked_by, branch_if_live, authorising_pairs, authorise_row}
 use Rattle.spec_run.specs.Translation.{last_configuration, last_world, first_halt}
 use Rattle.spec_run.specs.Agreement.{active_in, active_by}
 use Rattle.spec_run.specs.Statements.{IsRun, spends_with_leave}
-use Rattle.spec_next.specs.declared.want.Want.{Want}
-use Rattle.spec_next.specs.declared.want.Want.TheVariants as wants
-use Rattle.spec_next.specs.Wants.{Condition, authorised, put_in, secret_want, revealed, undecided_or_true, asked_for, asked_by_branch, unmet}
+use Rattle.spec_next.specs.declared.requirement.Requirement.{Requirement}
+use Rattle.spec_next.specs.declared.requirement.Requirement.TheVariants as requirements
+use Rattle.spec_next.specs.Requirements.{Condition, authorised, put_in, secret_requirement, revealed, undecided_or_true, asked_for, asked_by_branch, unmet}
 use Rattle.theory_calculus.specs.Members.{Is_in}
 use Rattle.theory_calculus.proofs.Names.{bytes_refl}
 use Rattle.theory_calculus.proofs.Members.{in_left, in_right, in_append, in_from_contains, contains_from_in}
@@ -41,7 +41,7 @@ use Rattle.theory_world.proofs.Ledger.Outputs.{active-at}
 use Rattle.theory_run.specs.Tracks.{Tracks}
 use Rattle.theory_run.proofs.Following.{run_posts, kept_at_end}
 use Rattle.theory_offers.proofs.WholeRun.{KeptAll, opening_all, keeps_all}
-use Rattle.theory_next.specs.MetAlone.{IsAlone, AloneWanting, TurnsAround, MetAloneTheorem}
+use Rattle.theory_next.specs.MetAlone.{IsAlone, AloneOutstanding, TurnsAround, MetAloneTheorem}
 use Rattle.theory_next.proofs.Exact.{from_map, in_map, fails_in, is_failing}
 use Rattle.theory_next.proofs.Ready.{Enabled, met, branch_enabled, enabled_comes}
 use Rattle.theory_next.proofs.OneMore as one_more
@@ -58,7 +58,7 @@ met_both (x ∷ xs) ys h k =
     let p = and_parts (x.0) (met xs) h in and_from (x.0) (met (xs ++ ys)) p.0 (met_both xs ys p.1 k)
 
 -- where this alone is unmet, each condition is met or is for it
-met_or : (cs : List Condition) (x : Want) → IsAlone x (unmet cs) → (c : Condition) → Is_in c cs → (c.0 ≡ true) ⊎ (c.1 ≡ x)
+met_or : (cs : List Condition) (x : Requirement) → IsAlone x (unmet cs) → (c : Condition) → Is_in c cs → (c.0 ≡ true) ⊎ (c.1 ≡ x)
 met_or cs x a c i = by_test (c.0) refl
   where
     by_test : (b : Bool) → c.0 ≡ b → (c.0 ≡ true) ⊎ (c.1 ≡ x)
@@ -77,23 +77,23 @@ branch_more given p o j n i a h = by_test (has_branch_authorised given o j p)
     by_test false = any-append _ given (record { party = p; output = o; branch = j } ∷ []) ∙ or_left _ _ h
 
 -- the party of an authorisation
-abbrev party_in : Want → List ℕ
-party_in (wants.Authorisation party n i) = party
+abbrev party_in : Requirement → List ℕ
+party_in (requirements.Authorisation party n i) = party
 party_in _ = []
 
--- the height that is wanting
-abbrev height_in : Want → ℕ
-height_in (wants.Height t m) = t
+-- the height that is missing
+abbrev height_in : Requirement → ℕ
+height_in (requirements.Height t m) = t
 height_in _ = 0
 
 -- the blocks that lead to it
-abbrev blocks_in : Want → ℕ
-blocks_in (wants.Height t m) = m
+abbrev blocks_in : Requirement → ℕ
+blocks_in (requirements.Height t m) = m
 blocks_in _ = 0
 
 -- ---- the conditions of a branch, in their parts
 
-module _ (honest : List (List ℕ)) (g : Configuration) (n i k : ℕ) (pre : List Pre) (b : term.Guarded) (x : Want) where
+module _ (honest : List (List ℕ)) (g : Configuration) (n i k : ℕ) (pre : List Pre) (b : term.Guarded) (x : Requirement) where
   abbrev all : List Condition
   all = asked_for honest g n i k pre b
 
@@ -101,15 +101,15 @@ module _ (honest : List (List ℕ)) (g : Configuration) (n i k : ℕ) (pre : Lis
   behind_asks = put_in g k (puts_of (core b)) ++ (revealed honest g k pre (reveals_of (core b)) ++ (
     undecided_or_true g k pre
         (core b),
-    wants.Predicate,
+    requirements.Predicate,
   ) ∷ [])
 
-  -- whether it is no want of a put, a secret or a predicate
+  -- whether it is no need of a put, a secret or a predicate
   record IsOther : Type 0 where
-    no_put : (y : List ℕ) → wants.Put y ≡ x → ⊥
-    no_secret : (p y : List ℕ) → wants.Secret p k y ≡ x → ⊥
-    no_posted : (p y : List ℕ) → wants.Posted p y ≡ x → ⊥
-    no_predicate : wants.Predicate ≡ x → ⊥
+    no_put : (y : List ℕ) → requirements.Put y ≡ x → ⊥
+    no_secret : (p y : List ℕ) → requirements.Secret p k y ≡ x → ⊥
+    no_posted : (p y : List ℕ) → requirements.Posted p y ≡ x → ⊥
+    no_predicate : requirements.Predicate ≡ x → ⊥
 
   module _ (a : IsAlone x (unmet all)) (o : IsOther) where
     in_behind : (c : Condition) → Is_in c behind_asks → Is_in c all
@@ -133,11 +133,11 @@ module _ (honest : List (List ℕ)) (g : Configuration) (n i k : ℕ) (pre : Lis
             let m = from_map _ (reveals_of (core b)) c h in
             by_owner (look_up m.0 (secrets pre)) m.0 (sym (ap (λ (d : Condition). d.1) m.2) ∙ e)
           where
-            by_owner : (owner : Option (List ℕ)) (y : List ℕ) → secret_want honest k owner y ≡ x → ⊥
+            by_owner : (owner : Option (List ℕ)) (y : List ℕ) → secret_requirement honest k owner y ≡ x → ⊥
             by_owner None y q = o.no_predicate q
             by_owner (Some p) y q = by_honesty (is_among p honest) q
               where
-                by_honesty : (h : Bool) → (if h then wants.Secret p k y else wants.Posted p y) ≡ x → ⊥
+                by_honesty : (h : Bool) → (if h then requirements.Secret p k y else requirements.Posted p y) ≡ x → ⊥
                 by_honesty true e = o.no_secret p y e
                 by_honesty false e = o.no_posted p y e
 
@@ -214,7 +214,7 @@ module _ (s : Setup) (es : List Event) (run : IsRun s es) (on : first_halt s es 
     signed_world = with_pairs w (authorising_pairs s w party (live_position_at w n) i)
 
     module _ (b : term.Guarded) (here : branch_at g n i ≡ Some b) (among : is_among party (asks b) ≡ true) where
-      is_done : draft s w signing ≡ done signed_world []
+      is_done : pending s w signing ≡ done signed_world []
       is_done =
           let h = branch_held n i b here in
           let l : branch_if_live s (live_position_at w n) i ≡ Some b = ap (λ p. branch_if_live s p i) h.1 ∙ h.2 in
@@ -222,8 +222,8 @@ module _ (s : Setup) (es : List Event) (run : IsRun s es) (on : first_halt s es 
           three _ _ _ _ _ _ (ap is_some h.1) (ap is_some l) (ap (λ o. is_among party (asked_by o)) l ∙ among) in
           ap (λ r. unless r w [] (done signed_world [])) clear
 
-    abbrev wanting : Want
-    wanting = wants.Authorisation party n i
+    abbrev outstanding : Requirement
+    outstanding = requirements.Authorisation party n i
 
     abbrev signed_configuration : Configuration
     signed_configuration = record g { branch_authorised = with_branch g.branch_authorised party n i }
@@ -234,42 +234,42 @@ module _ (s : Setup) (es : List Event) (run : IsRun s es) (on : first_halt s es 
     abbrev entries : List Pre
     entries = pre_of (advert_of g.contracts (active_at g.active n))
 
-    other : (b : term.Guarded) → IsOther s.header.honest g n i number entries b wanting
+    other : (b : term.Guarded) → IsOther s.header.honest g n i number entries b outstanding
     other b = record { no_put = λ y e. cc; no_secret = λ p y e. cc; no_posted = λ p y e. cc; no_predicate = λ e. cc }
 
-    asked : (b : term.Guarded) → IsAlone wanting (unmet (asked_for s.header.honest g n i number entries b)) → is_among party (asks b) ≡ true
+    asked : (b : term.Guarded) → IsAlone outstanding (unmet (asked_for s.header.honest g n i number entries b)) → is_among party (asks b) ≡ true
     asked b a =
-        let f = is_failing (asked_for s.header.honest g n i number entries b) wanting (in_from_contains (unmet
-        (asked_for s.header.honest g n i number entries b)) wanting a.there) in
-        by_place f.condition (in_from_contains (asked_for s.header.honest g n i number entries b) f.condition f.there) f.wanting
+        let f = is_failing (asked_for s.header.honest g n i number entries b) outstanding (in_from_contains (unmet
+        (asked_for s.header.honest g n i number entries b)) outstanding a.there) in
+        by_place f.condition (in_from_contains (asked_for s.header.honest g n i number entries b) f.condition f.there) f.outstanding
       where
-        by_place : (c : Condition) → Is_in c (asked_for s.header.honest g n i number entries b) → c.1 ≡ wanting → is_among party (asks b) ≡ true
-        by_place c (inl e) q = let z : wants.Height (lock b) (lock b - g.time) ≡ wanting = sym (ap (λ (d : Condition). d.1) e) ∙ q in cc
+        by_place : (c : Condition) → Is_in c (asked_for s.header.honest g n i number entries b) → c.1 ≡ outstanding → is_among party (asks b) ≡ true
+        by_place c (inl e) q = let z : requirements.Height (lock b) (lock b - g.time) ≡ outstanding = sym (ap (λ (d : Condition). d.1) e) ∙ q in cc
         by_place c (inr h) q = elim (in_append c (authorised g n i (asks b)) _ h) [
           | inl r ↦
               let m = from_map _ (asks b) c r in
               let z : m.0 ≡ party = ap party_in (sym (ap (λ (d : Condition). d.1) m.2) ∙ q) in
               subst (λ p. is_among p (asks b) ≡ true) z (among_in m.0 (asks b) m.1)
-          | inr r ↦ absurd (none s.header.honest g n i number entries b wanting a (other b) c r q)
+          | inr r ↦ absurd (none s.header.honest g n i number entries b outstanding a (other b) c r q)
         ]
 
-    all_signed : (b : term.Guarded) → IsAlone wanting (unmet (asked_for s.header.honest g n i number entries b))
+    all_signed : (b : term.Guarded) → IsAlone outstanding (unmet (asked_for s.header.honest g n i number entries b))
         → met (asked_for s.header.honest signed_configuration n i number entries b) ≡ true
     all_signed b a =
         let cs = asked_for s.header.honest g n i number entries b in
-        let height : nat_le (lock b) g.time ≡ true = by_height (met_or cs wanting a (
+        let height : nat_le (lock b) g.time ≡ true = by_height (met_or cs outstanding a (
           nat_le (lock b) g.time,
-          wants.Height (lock b) (lock b - g.time),
+          requirements.Height (lock b) (lock b - g.time),
         ) (inl refl)) in
         and_from _ _ height (met_both (authorised signed_configuration n i (asks b)) _ (all_from
         (authorised signed_configuration n i (asks b)) each)
-        (behind_met s.header.honest g n i number entries b wanting a (other b)))
+        (behind_met s.header.honest g n i number entries b outstanding a (other b)))
       where
-        by_height : (nat_le (lock b) g.time ≡ true) ⊎ (wants.Height (lock b) (lock b - g.time) ≡ wanting) → nat_le (lock b) g.time ≡ true
+        by_height : (nat_le (lock b) g.time ≡ true) ⊎ (requirements.Height (lock b) (lock b - g.time) ≡ outstanding) → nat_le (lock b) g.time ≡ true
         by_height (inl e) = e
         by_height (inr e) = cc
 
-        by_party : (p : List ℕ) → (has_branch_authorised g.branch_authorised n i p ≡ true) ⊎ (wants.Authorisation p n i ≡ wanting)
+        by_party : (p : List ℕ) → (has_branch_authorised g.branch_authorised n i p ≡ true) ⊎ (requirements.Authorisation p n i ≡ outstanding)
             → has_branch_authorised signed_configuration.branch_authorised n i p ≡ true
         by_party p (inl e) = branch_more g.branch_authorised party n i n i p e
         by_party p (inr e) =
@@ -279,13 +279,13 @@ module _ (s : Setup) (es : List Event) (run : IsRun s es) (on : first_halt s es 
         each : (c : Condition) → Is_in c (authorised signed_configuration n i (asks b)) → c.0 ≡ true
         each c h =
             let m = from_map _ (asks b) c h in
-            let there = in_map (λ p. (has_branch_authorised g.branch_authorised n i p, wants.Authorisation p n i)) (asks b) m.0 m.1 in
+            let there = in_map (λ p. (has_branch_authorised g.branch_authorised n i p, requirements.Authorisation p n i)) (asks b) m.0 m.1 in
             ap (λ (d : Condition). d.0) m.2
-            ∙ by_party m.0 (met_or (asked_for s.header.honest g n i number entries b) wanting a _ (inr (in_left _ (authorised g n i (asks b)) _ there)))
+            ∙ by_party m.0 (met_or (asked_for s.header.honest g n i number entries b) outstanding a _ (inr (in_left _ (authorised g n i (asks b)) _ there)))
 
-    by_branch : (o : Option term.Guarded) → branch_at g n i ≡ o → IsAlone wanting (unmet (asked_by_branch s.header.honest g n i (active_at g.active n) o))
+    by_branch : (o : Option term.Guarded) → branch_at g n i ≡ o → IsAlone outstanding (unmet (asked_by_branch s.header.honest g n i (active_at g.active n) o))
         → TurnsAround s es signing n i
-    by_branch None here a = absurd (in_from_contains [] wanting a.there)
+    by_branch None here a = absurd (in_from_contains [] outstanding a.there)
     by_branch (Some b) here a =
         let d = is_done b here (asked b a) in
         let longer = one_more.is_run s es run on signing declared signed_world d in
@@ -299,7 +299,7 @@ module _ (s : Setup) (es : List Event) (run : IsRun s es) (on : first_halt s es 
               signed_world d)) enabled);
         }
 
-    pub authorisation_met : AloneWanting s es n i wanting → TurnsAround s es signing n i
+    pub authorisation_met : AloneOutstanding s es n i outstanding → TurnsAround s es signing n i
     authorisation_met a = by_branch (branch_at g n i) refl a
 
   -- ---- a height
@@ -314,8 +314,8 @@ module _ (s : Setup) (es : List Event) (run : IsRun s es) (on : first_halt s es 
     abbrev later_configuration : Configuration
     later_configuration = record g { time = g.time + blocks }
 
-    abbrev reaching : Want
-    reaching = wants.Height t blocks
+    abbrev reaching : Requirement
+    reaching = requirements.Height t blocks
 
     abbrev contract : ℕ
     contract = contract_number (active_at g.active n)
@@ -326,7 +326,7 @@ module _ (s : Setup) (es : List Event) (run : IsRun s es) (on : first_halt s es 
     rest_other : (b : term.Guarded) → IsOther s.header.honest g n i contract pres b reaching
     rest_other b = record { no_put = λ y e. cc; no_secret = λ p y e. cc; no_posted = λ p y e. cc; no_predicate = λ e. cc }
 
-    -- the height that is wanting is that of the branch, and it isn't reached
+    -- the height that is missing is that of the branch, and it isn't reached
     record Awaits (b : term.Guarded) : Type 0 where
       is_lock : lock b ≡ t
       is_blocks : lock b - g.time ≡ blocks
@@ -336,7 +336,7 @@ module _ (s : Setup) (es : List Event) (run : IsRun s es) (on : first_halt s es 
     awaited b a =
         let f = is_failing (asked_for s.header.honest g n i contract pres b) reaching (in_from_contains (unmet
         (asked_for s.header.honest g n i contract pres b)) reaching a.there) in
-        by_place f.condition (in_from_contains (asked_for s.header.honest g n i contract pres b) f.condition f.there) f.wanting f.fails
+        by_place f.condition (in_from_contains (asked_for s.header.honest g n i contract pres b) f.condition f.there) f.outstanding f.fails
       where
         by_place : (c : Condition) → Is_in c (asked_for s.header.honest g n i contract pres b) → c.1 ≡ reaching → c.0 ≡ false → Awaits b
         by_place c (inl e) q z = record {
@@ -347,7 +347,7 @@ module _ (s : Setup) (es : List Event) (run : IsRun s es) (on : first_halt s es 
         by_place c (inr h) q z = elim (in_append c (authorised g n i (asks b)) _ h) [
           | inl r ↦
               let m = from_map _ (asks b) c r in
-              let no : wants.Authorisation m.0 n i ≡ reaching = sym (ap (λ (d : Condition). d.1) m.2) ∙ q in cc
+              let no : requirements.Authorisation m.0 n i ≡ reaching = sym (ap (λ (d : Condition). d.1) m.2) ∙ q in cc
           | inr r ↦ absurd (none s.header.honest g n i contract pres b reaching a (rest_other b) c r q)
         ]
 
@@ -364,7 +364,7 @@ module _ (s : Setup) (es : List Event) (run : IsRun s es) (on : first_halt s es 
       some_block : 1 ≤ blocks
       some_block = let e = awaits.is_lock in let h = awaits.is_blocks in omega (arith, below, same_time, e, h)
 
-      mined : draft s w mining ≡ done later_world []
+      mined : pending s w mining ≡ done later_world []
       mined =
           let clear : first_reason (mine_row w blocks) ≡ None =
           ap (λ m. first_reason ((not (nat_le m last_height), reason.TimeLimit) ∷ [])) reaches_it
@@ -382,7 +382,7 @@ module _ (s : Setup) (es : List Event) (run : IsRun s es) (on : first_halt s es 
           and_from _ _ is_reached (met_both (authorised g n i (asks b)) _ (all_from (authorised g n i (asks b)) each)
           (behind_met s.header.honest g n i contract pres b reaching a (rest_other b)))
         where
-          by_or : (p : List ℕ) → (has_branch_authorised g.branch_authorised n i p ≡ true) ⊎ (wants.Authorisation p n i ≡ reaching)
+          by_or : (p : List ℕ) → (has_branch_authorised g.branch_authorised n i p ≡ true) ⊎ (requirements.Authorisation p n i ≡ reaching)
               → has_branch_authorised g.branch_authorised n i p ≡ true
           by_or p (inl e) = e
           by_or p (inr e) = cc
@@ -390,7 +390,7 @@ module _ (s : Setup) (es : List Event) (run : IsRun s es) (on : first_halt s es 
           each : (c : Condition) → Is_in c (authorised g n i (asks b)) → c.0 ≡ true
           each c h =
               let m = from_map _ (asks b) c h in
-              let there = in_map (λ p. (has_branch_authorised g.branch_authorised n i p, wants.Authorisation p n i)) (asks b) m.0 m.1 in
+              let there = in_map (λ p. (has_branch_authorised g.branch_authorised n i p, requirements.Authorisation p n i)) (asks b) m.0 m.1 in
               ap (λ (d : Condition). d.0) m.2
               ∙ by_or m.0 (met_or (asked_for s.header.honest g n i contract pres b) reaching a _ (inr (in_left _ (authorised g n i (asks b)) _ there)))
 
@@ -412,7 +412,7 @@ module _ (s : Setup) (es : List Event) (run : IsRun s es) (on : first_halt s es 
               d)) enabled);
         }
 
-    pub height_met : AloneWanting s es n i reaching → TurnsAround s es mining n i
+    pub height_met : AloneOutstanding s es n i reaching → TurnsAround s es mining n i
     height_met a = by_guarded (branch_at g n i) refl a
 
 pub met_alone : MetAloneTheorem

@@ -10,15 +10,15 @@ use Rattle.spec_run.specs.declared.outcome.Reason.{Reason}
 use Rattle.spec_run.specs.declared.outcome.Reason.TheVariants as reason
 use Rattle.spec_run.specs.Setup.{Setup}
 use Rattle.spec_run.specs.World.{World}
-use Rattle.spec_next.specs.declared.want.Want.{Want}
+use Rattle.spec_next.specs.declared.requirement.Requirement.{Requirement}
 use Rattle.spec_next.specs.declared.outlook.Ruling.{Ruling}
 use Rattle.spec_next.specs.declared.outlook.Ruling.TheVariants as rulings
 use Rattle.spec_next.specs.declared.outlook.Prospect.{Prospect}
 use Rattle.spec_terms.specs.Precondition.{persistent, secrets}
 use Rattle.spec_run.specs.declared.event.Event.TheVariants as events
 use Rattle.spec_next.specs.Candidates.{people, committing, endorsing, starting, revealing, taking_active, actives_of, candidates}
-use Rattle.spec_next.specs.Wants.{wants_of}
-use Rattle.spec_next.specs.Prospects.{ruling, lasting, is_never, decisive, wants_by, is_refused, is_lost, goes_on, living, prospect, outlook}
+use Rattle.spec_next.specs.Requirements.{requirements_of}
+use Rattle.spec_next.specs.Prospects.{ruling, lasting, is_never, decisive, requirements_by, is_refused, is_lost, goes_on, living, prospect, outlook}
 use Rattle.spec_next.specs.Prospects.{is_shown, takes, reveals, useful, prospects_of}
 use Rattle.theory_calculus.specs.Members.{Is_in}
 use Rattle.theory_calculus.proofs.Members.{in_append, in_filter, filter_has, in_from_contains, contains_from_in, all_in}
@@ -55,7 +55,7 @@ is_false false h = refl
 
 -- ---- what an event lacks
 
-pub in_decisive : (ws : List Want) (x : Want) → Is_in x (decisive ws) → Is_in x ws
+pub in_decisive : (ws : List Requirement) (x : Requirement) → Is_in x (decisive ws) → Is_in x ws
 in_decisive ws x h = by_test (list_any is_never ws) h
   where
     by_test : (b : Bool) → Is_in x (if b then filter is_never ws else ws) → Is_in x ws
@@ -70,7 +70,7 @@ lasting_never (reason.HashRepeated x) = refl
 lasting_never _ = refl
 
 -- what may come is lacking by a condition
-pub lacks_condition : (r : Reason) (ws : List Want) (x : Want) → is_never x ≡ false → Is_in x (decisive (lasting r ++ ws)) → Is_in x ws
+pub lacks_condition : (r : Reason) (ws : List Requirement) (x : Requirement) → is_never x ≡ false → Is_in x (decisive (lasting r ++ ws)) → Is_in x ws
 lacks_condition r ws x f h = elim (in_append x (lasting r) ws (in_decisive (lasting r ++ ws) x h)) [
   | inl a ↦ absurd (apart (is_never x) (all_in is_never (lasting r) x (lasting_never r) a) f)
   | inr b ↦ b
@@ -84,22 +84,22 @@ says_what_lacks : (s : Setup) (g : Configuration) (w : World) (e : Event) → Sa
 says_what_lacks s g w e = record {
   nothing = λ h. none (ruling s w e) h;
   all = λ r q h.
-      ap (wants_by (wants_of s g w e)) q
+      ap (requirements_by (requirements_of s g w e)) q
       ∙ ap (λ b. if b then filter is_never (all_lacking s g w e r) else all_lacking s g w e r)
       (by_any is_never (all_lacking s g w e r) (λ x i. h x (contains_from_in (all_lacking s g w e r) x i)));
   never = λ r q y i n x.
       let ws = all_lacking s g w e r in
-      let same : (prospect s g w e).wants ≡ filter is_never ws =
-      ap (wants_by (wants_of s g w e)) q
+      let same : (prospect s g w e).requirements ≡ filter is_never ws =
+      ap (requirements_by (requirements_of s g w e)) q
       ∙ ap (λ b. if b then filter is_never ws else ws) (any_in is_never ws y (in_from_contains ws y i) n) in (
-        λ h. let f = in_filter is_never ws x (subst (λ (xs : List Want). Is_in x xs) same (in_from_contains (prospect s g w e).wants x h)) in
+        λ h. let f = in_filter is_never ws x (subst (λ (xs : List Requirement). Is_in x xs) same (in_from_contains (prospect s g w e).requirements x h)) in
             (contains_from_in ws x f.0, f.1),
-        λ h. contains_from_in (prospect s g w e).wants x
-            (subst (λ (xs : List Want). Is_in x xs) (sym same) (filter_has is_never ws x (in_from_contains ws x h.0) h.1)),
+        λ h. contains_from_in (prospect s g w e).requirements x
+            (subst (λ (xs : List Requirement). Is_in x xs) (sym same) (filter_has is_never ws x (in_from_contains ws x h.0) h.1)),
       );
 }
   where
-    none : (r : Ruling) → is_refused r ≡ false → wants_by (wants_of s g w e) r ≡ []
+    none : (r : Ruling) → is_refused r ≡ false → requirements_by (requirements_of s g w e) r ≡ []
     none rulings.Can h = refl
     none (rulings.Cannot reason) h = cc
     none rulings.Halts h = refl

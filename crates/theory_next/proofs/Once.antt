@@ -166,9 +166,9 @@ abbrev ascends : List ActiveContract → Bool
 ascends xs = are_ascending (map (λ (x : ActiveContract). x.number) xs)
 
 -- the first has another number than those behind it
-front_apart : (x : ActiveContract) (xs : List ActiveContract) (b : ActiveContract) → ascends (x ∷ xs) ≡ true → Is_in b xs
+prefix_apart : (x : ActiveContract) (xs : List ActiveContract) (b : ActiveContract) → ascends (x ∷ xs) ≡ true → Is_in b xs
     → x.number ≡ b.number → ⊥
-front_apart x xs b h i e =
+prefix_apart x xs b h i e =
     let numbers = map (λ (y : ActiveContract). y.number) xs in
     let l = all_in (λ y. nat_lt x.number y) numbers b.number (and_parts (list_all (λ y. nat_lt x.number y) numbers) _ h).0
     (in_map (λ (y : ActiveContract). y.number) xs b i) in
@@ -178,8 +178,8 @@ unique_at : (xs : List ActiveContract) (a b : ActiveContract) → ascends xs ≡
 unique_at [] a b h i j e = absurd i
 unique_at (x ∷ xs) a b h (inl p) (inl q) e = p ∙ sym q
 unique_at (x ∷ xs) a b h (inr p) (inr q) e = unique_at xs a b (and_parts _ (ascends xs) h).1 p q e
-unique_at (x ∷ xs) a b h (inl p) (inr q) e = absurd (front_apart x xs b h q (ap (λ (y : ActiveContract). y.number) (sym p) ∙ e))
-unique_at (x ∷ xs) a b h (inr p) (inl q) e = absurd (front_apart x xs a h p (ap (λ (y : ActiveContract). y.number) (sym q) ∙ sym e))
+unique_at (x ∷ xs) a b h (inl p) (inr q) e = absurd (prefix_apart x xs b h q (ap (λ (y : ActiveContract). y.number) (sym p) ∙ e))
+unique_at (x ∷ xs) a b h (inr p) (inl q) e = absurd (prefix_apart x xs a h p (ap (λ (y : ActiveContract). y.number) (sym q) ∙ sym e))
 
 -- what active contracts of a list go on by
 record GoesOnBy (xs : List ActiveContract) (e : Event) : Type 0 where
@@ -205,7 +205,7 @@ actives_apart g ps (a ∷ xs) each h =
     (λ e x y.
     let t = takes_of g ps a.number 0 (branches_of g.contracts a) e x in
     let u = goes_on_by g ps xs e y in
-    front_apart a xs u.active h u.there (sym t.here ∙ u.here)))
+    prefix_apart a xs u.active h u.there (sym t.here ∙ u.here)))
 
 -- ---- secrets
 

@@ -7,8 +7,8 @@ use Rattle.spec_run.specs.declared.event.Event.{Event}
 use Rattle.spec_run.specs.declared.header.HeldSecret.{HeldSecret}
 use Rattle.spec_run.specs.Setup.{Setup}
 use Rattle.spec_run.specs.World.{World}
-use Rattle.spec_run.specs.Draft.{Draft, done, guess, is_guessed, settled, settle, answer}
-use Rattle.spec_run.specs.Event.{Passed, Progress, draft, opening_world, played}
+use Rattle.spec_run.specs.Pending.{Pending, done, guess, is_guessed, applied, apply, answer}
+use Rattle.spec_run.specs.Event.{Passed, Progress, pending, opening_world, played}
 use Rattle.spec_run.specs.Steps.{done_steps}
 use Rattle.spec_run.specs.Translation.{turn_of, world_after, opening_configuration, last_configuration, last_world, first_halt}
 use Rattle.spec_run.specs.Conditions.{IsEvent}
@@ -29,23 +29,23 @@ none_guessed posted allowed [] = refl
 none_guessed posted allowed (x ∷ xs) = none_guessed posted allowed xs
 
 module _ (s : Setup) (es : List Event) (run : IsRun s es) (on : first_halt s es ≡ None) (e : Event) (is : IsEvent s e) (next : World)
-    (is_done : draft s (last_world s es) e ≡ done next []) where
+    (is_done : pending s (last_world s es) e ≡ done next []) where
   abbrev w : World
   w = last_world s es
 
   abbrev pub after : World
-  after = settled w (done next [])
+  after = applied w (done next [])
 
-  calm : collision s.hash w.hashed (draft s w e).hashes ≡ None
-  calm = ap (λ (d : Draft). collision s.hash w.hashed d.hashes) is_done
+  calm : collision s.hash w.hashed (pending s w e).hashes ≡ None
+  calm = ap (λ (d : Pending). collision s.hash w.hashed d.hashes) is_done
 
-  unguessed : guess s w.posted (draft s w e).posts (draft s w e).allowed ≡ None
-  unguessed = ap (λ (d : Draft). guess s w.posted d.posts d.allowed) is_done ∙ none_guessed w.posted None s.header.secrets
+  unguessed : guess s w.posted (pending s w e).posts (pending s w e).allowed ≡ None
+  unguessed = ap (λ (d : Pending). guess s w.posted d.posts d.allowed) is_done ∙ none_guessed w.posted None s.header.secrets
 
   pub can : ruling s w e ≡ rulings.Can
   can =
-      ap (λ (d : Draft). ruling_of (answer s w d)) is_done
-      ∙ ap (λ u. ruling_of (settle w (done next []) None u)) (none_guessed w.posted None s.header.secrets)
+      ap (λ (d : Pending). ruling_of (answer s w d)) is_done
+      ∙ ap (λ u. ruling_of (apply w (done next []) None u)) (none_guessed w.posted None s.header.secrets)
 
   left : w ≡ world_after (opening_world s) (played s es).passed
   left = last_left s (run_posts s es) (played s es).passed (opening_configuration s) (opening_world s)
@@ -59,7 +59,7 @@ module _ (s : Setup) (es : List Event) (run : IsRun s es) (on : first_halt s es 
   pub goes_on : first_halt s (es ++ e ∷ []) ≡ None
   goes_on = ap (λ (p : Progress). p.halt) more
 
-  world_more : world_after (opening_world s) (played s (es ++ e ∷ [])).passed ≡ settled w (draft s w e)
+  world_more : world_after (opening_world s) (played s (es ++ e ∷ [])).passed ≡ applied w (pending s w e)
   world_more =
       ap (λ (p : Progress). world_after (opening_world s) p.passed) more
       ∙ left_more (played s es).passed (passing s w e) (opening_world s)
@@ -67,11 +67,11 @@ module _ (s : Setup) (es : List Event) (run : IsRun s es) (on : first_halt s es 
   pub last_world_is : last_world s (es ++ e ∷ []) ≡ after
   last_world_is =
       last_left s (run_posts s (es ++ e ∷ [])) (played s (es ++ e ∷ [])).passed (opening_configuration s) (opening_world s)
-      ∙ world_more ∙ ap (settled w) is_done
+      ∙ world_more ∙ ap (applied w) is_done
 
   posts_same : run_posts s (es ++ e ∷ []) ≡ run_posts s es
   posts_same =
-      ap (λ (x : World). x.posted) world_more ∙ ap (λ (d : Draft). (settled w d).posted) is_done ∙ append-nil w.posted
+      ap (λ (x : World). x.posted) world_more ∙ ap (λ (d : Pending). (applied w d).posted) is_done ∙ append-nil w.posted
       ∙ ap (λ (x : World). x.posted) left
 
   pub last_configuration_is : last_configuration s (es ++ e ∷ [])
@@ -83,5 +83,5 @@ module _ (s : Setup) (es : List Event) (run : IsRun s es) (on : first_halt s es 
       ∙ ap (λ (p : Progress). reached s (run_posts s es) g o p.passed) more
       ∙ reached_more s (run_posts s es) (played s es).passed (passing s w e) g o
       ∙ ap (λ x. (turn_of s (run_posts s es) (last_configuration s es) x (passing s w e)).configuration) (sym left)
-      ∙ ap (λ (d : Draft). (turn_of s (run_posts s es) (last_configuration s es) w
-      (record { event = e; draft = d; world = settled w d })).configuration) is_done
+      ∙ ap (λ (d : Pending). (turn_of s (run_posts s es) (last_configuration s es) w
+      (record { event = e; pending = d; world = applied w d })).configuration) is_done

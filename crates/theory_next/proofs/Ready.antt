@@ -1,4 +1,4 @@
--- After a run, what nothing is wanting for can come, unless it halts.
+-- After a run, what nothing is missing for can come, unless it halts.
 use Rattle.std.proofs.Common.{◌≡◌, ℕ, ◌+◌, List, [], ◌∷◌, ◌++◌, map, Bool, true, Option, Some, None, refl, sym, ap, ◌∙◌, subst, inl}
 use Rattle.std.specs.Prelude.{not, ◌||◌, nat_le, is_some, if◌then◌else◌}
 use Rattle.std.specs.List.{Contains, list_all}
@@ -26,9 +26,9 @@ use Rattle.spec_run.specs.declared.event.Event.TheVariants as events
 use Rattle.spec_run.specs.Setup.{Setup}
 use Rattle.spec_run.specs.Translation.{last_configuration, last_world}
 use Rattle.spec_run.specs.Offers.{Offer, offers_of, offers}
-use Rattle.spec_next.specs.declared.want.Want.TheVariants as wants
-use Rattle.spec_next.specs.Wants.{Condition, agreed, isnt_gone, started, authorised}
-use Rattle.spec_next.specs.Wants.{put_in, revealed, undecided_or_true, asked_for, asked_by_branch, conditions}
+use Rattle.spec_next.specs.declared.requirement.Requirement.TheVariants as requirements
+use Rattle.spec_next.specs.Requirements.{Condition, agreed, isnt_gone, started, authorised}
+use Rattle.spec_next.specs.Requirements.{put_in, revealed, undecided_or_true, asked_for, asked_by_branch, conditions}
 use Rattle.theory_calculus.proofs.Members.{all_map, in_from_contains, contains_from_in}
 use Rattle.theory_calculus.proofs.Offered.{every_enabled}
 use Rattle.theory_calculus.specs.Members.{Is_in}
@@ -116,14 +116,14 @@ module _ (honest : List (List ℕ)) (g : Configuration) (n i : ℕ) where
       rest : met (put_in g k (puts_of (core b)) ++ (revealed honest g k pre (reveals_of (core b)) ++ (
         undecided_or_true g k pre
             (core b),
-        wants.Predicate,
+        requirements.Predicate,
       ) ∷ [])) ≡ true
       rest = (met_parts (authorised g n i (asks b)) _ (and_parts _ _ all).1).1
 
       puts_there : are_there g.deposits (bindings_of g.advertised k) (puts_of (core b)) ≡ true
       puts_there = sym (all_map (λ (c : Condition). c.0) _ (puts_of (core b))) ∙ (met_parts (put_in g k (puts_of (core b))) _ rest).0
 
-      last : met (revealed honest g k pre (reveals_of (core b)) ++ (undecided_or_true g k pre (core b), wants.Predicate) ∷ []) ≡ true
+      last : met (revealed honest g k pre (reveals_of (core b)) ++ (undecided_or_true g k pre (core b), requirements.Predicate) ∷ []) ≡ true
       last = (met_parts (put_in g k (puts_of (core b))) _ rest).1
 
       all_revealed : are_revealed g.revealed k pre (reveals_of (core b)) ≡ true
@@ -202,7 +202,7 @@ beginning_enabled g k h all =
     let ds = persistent (pre_of advert) in
     let p = met_parts (agreed g k) (started g k ds) all in
     let q = and_parts (is_advertised g.advertised k) _ p.0 in
-    let r = met_parts (map (λ (d : List ℕ × Holding). (isnt_gone g k (d.0), wants.Gone (d.0))) ds) _ p.1 in
+    let r = met_parts (map (λ (d : List ℕ × Holding). (isnt_gone g k (d.0), requirements.Gone (d.0))) ds) _ p.1 in
     let committed : have_committed g.committed k (participants_of advert) ≡ true =
     sym (all_map (λ (c : Condition). c.0) _ (participants_of advert)) ∙ q.1 in
     record {

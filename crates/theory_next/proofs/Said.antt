@@ -12,7 +12,7 @@ use Rattle.spec_run.specs.declared.outcome.Outcome.{Outcome}
 use Rattle.spec_run.specs.declared.outcome.Outcome.TheVariants as outcomes
 use Rattle.spec_run.specs.Setup.{Setup}
 use Rattle.spec_run.specs.World.{World}
-use Rattle.spec_run.specs.Draft.{Draft, Answer, Went, Halted}
+use Rattle.spec_run.specs.Pending.{Pending, Answer, Went, Halted}
 use Rattle.spec_run.specs.Event.{event}
 use Rattle.spec_run.specs.Values.{is_refused}
 use Rattle.spec_run.specs.Steps.{outcome_steps}
@@ -46,12 +46,12 @@ goes_by (outcomes.Refused reason) h = cc
 
 goes : (s : Setup) (w : World) (e : Event) (a : Answer) → event s w e ≡ a → ruling_of a ≡ rulings.Can → GoesThrough s w e
 goes s w e (Halted halt) q h = cc
-goes s w e (Went d next) q h = record { draft = d; next = next; went = q; passed = by_outcome d.outcome h }
+goes s w e (Went d next) q h = record { pending = d; next = next; went = q; passed = by_outcome d.outcome h }
 
 pub can_is_meant : CanIsMeant
 can_is_meant s w e = (
   λ h. goes s w e (event s w e) refl h,
-  λ (h : GoesThrough s w e). ap ruling_of h.went ∙ goes_by h.draft.outcome h.passed,
+  λ (h : GoesThrough s w e). ap ruling_of h.went ∙ goes_by h.pending.outcome h.passed,
 )
 
 -- ---- what leads to a step goes through or halts
@@ -65,7 +65,7 @@ no_last [] step h = cc
 no_last (x ∷ xs) step h = cc
 
 module _ (s : Setup) (g : Configuration) (w : World) (e : Event) (step : Step) where
-  by_steps : (d : Draft) (next : World) (o : Outcome) → IsLast step (outcome_steps s next.posted g w next e d.tx o) → Comes (ruling_by o)
+  by_steps : (d : Pending) (next : World) (o : Outcome) → IsLast step (outcome_steps s next.posted g w next e d.tx o) → Comes (ruling_by o)
   by_steps d next outcomes.Done h = inl refl
   by_steps d next (outcomes.Accepted spent made lock) h = inl refl
   by_steps d next (outcomes.Refused reason) h = absurd (no_last h.0 step h.1)

@@ -1,4 +1,4 @@
--- A contract waits exactly for those who can give now something that is wanting.
+-- A contract waits exactly for those who can give now something that is missing.
 use Rattle.std.proofs.Common.{◌≡◌, ℕ, ◌+◌, List, [], ◌∷◌, map, Bool, true, false, Option, Some, None, refl, sym, ap, ◌∙◌, subst, inl, inr, ◌⊎◌}
 use Rattle.std.specs.Prelude.{◌==◌, not, ◌&&◌, ◌||◌, if◌then◌else◌, is_some}
 use Rattle.std.specs.Str.{bytes_eq}
@@ -23,24 +23,24 @@ use Rattle.spec_run.specs.declared.event.Event.TheVariants as events
 use Rattle.spec_run.specs.declared.header.HeldSecret.{HeldSecret}
 use Rattle.spec_run.specs.Setup.{Setup, bytes_or_none, has_contract, takes_part, is_honest}
 use Rattle.spec_run.specs.World.{World, is_advertised, has_promised}
-use Rattle.spec_run.specs.Draft.{Draft, guess, settle, unless}
-use Rattle.spec_run.specs.Event.{draft}
+use Rattle.spec_run.specs.Pending.{Pending, guess, apply, unless}
+use Rattle.spec_run.specs.Event.{pending}
 use Rattle.spec_run.specs.Compiled.{compiled_instance}
 use Rattle.spec_run.specs.declared.outcome.Reason.TheVariants as reason
-use Rattle.spec_run.specs.Committing.{not_held, badly_long, missing_secret, bad_secret, names_fit, repeated_digest, commit_row, digest_row, committed_draft, committed_strings, with_promise, secrets_at}
+use Rattle.spec_run.specs.Committing.{not_held, badly_long, missing_secret, bad_secret, names_fit, repeated_digest, commit_row, digest_row, committed_pending, committed_strings, with_promise, secrets_at}
 use Rattle.spec_run.specs.Advertising.{deposit_names}
 use Rattle.spec_run.specs.Translation.{last_configuration, last_world}
 use Rattle.spec_run.specs.Statements.{IsRun, spends_with_leave}
-use Rattle.spec_next.specs.declared.want.Want.{Want}
-use Rattle.spec_next.specs.declared.want.Want.TheVariants as wants
+use Rattle.spec_next.specs.declared.requirement.Requirement.{Requirement}
+use Rattle.spec_next.specs.declared.requirement.Requirement.TheVariants as requirements
 use Rattle.spec_next.specs.declared.outlook.Ruling.{Ruling}
 use Rattle.spec_next.specs.declared.outlook.Ruling.TheVariants as rulings
 use Rattle.spec_next.specs.declared.outlook.Prospect.{Prospect}
 use Rattle.spec_next.specs.Candidates.{people, committing, endorsing, starting, revealing, authorising, taking, taking_active, actives_of}
 use Rattle.spec_next.specs.Candidates.{has_endorsed, candidates}
-use Rattle.spec_next.specs.Wants.{Condition, agreed, bound, isnt_gone, endorsed, endorsed_for, started, asked_by_branch, secret_want, conditions, unmet, wants_of}
+use Rattle.spec_next.specs.Requirements.{Condition, agreed, bound, isnt_gone, endorsed, endorsed_for, started, asked_by_branch, secret_requirement, conditions, unmet, requirements_of}
 use Rattle.spec_next.specs.Prospects.{is_commitment, is_endorsement, is_start, is_authorisation, is_reveal}
-use Rattle.spec_next.specs.Prospects.{ruling_by, ruling, ruling_of, is_ahead, is_shown, wants_by, prospect, prospects_of, awaited, is_for_whom, is_for, gives, can_come}
+use Rattle.spec_next.specs.Prospects.{ruling_by, ruling, ruling_of, is_ahead, is_shown, requirements_by, prospect, prospects_of, awaited, is_for_whom, is_for, gives, can_come}
 use Rattle.spec_next.specs.Prospects.{is_never, living, useful, is_given, is_open, is_at_hand, is_waited_for, outlook}
 use Rattle.theory_calculus.specs.Members.{Is_in}
 use Rattle.theory_calculus.proofs.Members.{in_append, in_filter, filter_has, in_from_contains, contains_from_in, all_append, all_in}
@@ -56,10 +56,10 @@ use Rattle.theory_next.proofs.Exact.{from_map, is_failing}
 use Rattle.theory_next.proofs.Never.{any_in, any_from, in_living, in_useful, lacks_condition}
 use Rattle.theory_next.proofs.Said.{can_is_meant}
 
--- ---- digests are wanting for commitments alone
+-- ---- digests are missing for commitments alone
 
-abbrev is_digest : Want → Bool
-is_digest (wants.Digest party k secret) = true
+abbrev is_digest : Requirement → Bool
+is_digest (requirements.Digest party k secret) = true
 is_digest _ = false
 
 abbrev is_other : Condition → Bool
@@ -78,15 +78,15 @@ no_digest_bound names bindings = all_others _ (λ x. refl) names
 no_digest_started : (g : Configuration) (k : ℕ) (ds : List (List ℕ × Holding)) → list_all is_other (started g k ds) ≡ true
 no_digest_started g k ds =
     all_append is_other
-    (map (λ (d : List ℕ × Holding). (isnt_gone g k (d.0), wants.Gone (d.0))) ds)
-    (map (λ (d : List ℕ × Holding). (is_init_authorised g.init_authorised k (d.0), wants.Start (d.1).owner k)) ds)
+    (map (λ (d : List ℕ × Holding). (isnt_gone g k (d.0), requirements.Gone (d.0))) ds)
+    (map (λ (d : List ℕ × Holding). (is_init_authorised g.init_authorised k (d.0), requirements.Start (d.1).owner k)) ds)
     (all_others _ (λ x. refl) ds) (all_others _ (λ x. refl) ds)
 
-no_digest_secret : (honest : List (List ℕ)) (k : ℕ) (owner : Option (List ℕ)) (x : List ℕ) → is_digest (secret_want honest k owner x) ≡ false
+no_digest_secret : (honest : List (List ℕ)) (k : ℕ) (owner : Option (List ℕ)) (x : List ℕ) → is_digest (secret_requirement honest k owner x) ≡ false
 no_digest_secret honest k None x = refl
 no_digest_secret honest k (Some party) x = by_honesty (is_among party honest)
   where
-    by_honesty : (h : Bool) → is_digest (if h then wants.Secret party k x else wants.Posted party x) ≡ false
+    by_honesty : (h : Bool) → is_digest (if h then requirements.Secret party k x else requirements.Posted party x) ≡ false
     by_honesty true = refl
     by_honesty false = refl
 
@@ -96,7 +96,7 @@ no_digest_endorsed s w k who None ps = refl
 no_digest_endorsed s w k who (Some instance) ps = by_honesty (is_honest s who)
   where
     by_honesty : (b : Bool) → list_all is_other (if b then endorsed s w k instance ps else []) ≡ true
-    by_honesty true = all_others (λ (p : List ℕ). (has_endorsed s w (Some instance) p, wants.Endorsement p k)) (λ y. refl) ps
+    by_honesty true = all_others (λ (p : List ℕ). (has_endorsed s w (Some instance) p, requirements.Endorsement p k)) (λ y. refl) ps
     by_honesty false = refl
 
 no_digest_branch : (honest : List (List ℕ)) (g : Configuration) (n i : ℕ) (a : Option ActiveContract) (o : Option term.Guarded)
@@ -108,7 +108,7 @@ no_digest_branch honest g n i a (Some b) =
     (all_append is_other (map _ (reveals_of (core b))) _
     (all_others _ (λ x. ap not (no_digest_secret honest _ (look_up x _) x)) (reveals_of (core b))) refl))
 
--- the commitment of which a digest is wanting, which is still ahead of a party that isn't honest
+-- the commitment of which a digest is missing, which is still ahead of a party that isn't honest
 record Uncommitted (s : Setup) (w : World) (e : Event) (party : List ℕ) (k : ℕ) : Type 0 where
   digests : List (List ℕ × List ℕ)
   is : e ≡ events.Commit k party digests
@@ -118,40 +118,41 @@ or_false : (a b : Bool) → (a || b) ≡ false → a ≡ false
 or_false true b h = cc
 or_false false b h = refl
 
-abbrev digest_party : Want → List ℕ
-digest_party (wants.Digest party k secret) = party
+abbrev digest_party : Requirement → List ℕ
+digest_party (requirements.Digest party k secret) = party
 digest_party _ = []
 
-abbrev digest_contract : Want → ℕ
-digest_contract (wants.Digest party k secret) = k
+abbrev digest_contract : Requirement → ℕ
+digest_contract (requirements.Digest party k secret) = k
 digest_contract _ = 0
 
 module _ (s : Setup) (g : Configuration) (w : World) (party : List ℕ) (k : ℕ) (secret : List ℕ) where
-  abbrev x : Want
-  x = wants.Digest party k secret
+  abbrev x : Requirement
+  x = requirements.Digest party k secret
 
   never : (e : Event) → list_all is_other (conditions s g w e) ≡ true → Is_in x (unmet (conditions s g w e)) → ⊥
   never e h i =
       let cs = conditions s g w e in
       let f = is_failing cs x i in
       let t = all_in is_other cs f.condition h (in_from_contains cs f.condition f.there) in
-      let d : is_digest (f.condition.1) ≡ true = ap is_digest f.wanting in
+      let d : is_digest (f.condition.1) ≡ true = ap is_digest f.outstanding in
       apart (is_digest (f.condition.1)) d t
     where
       apart : (b : Bool) → b ≡ true → not b ≡ true → ⊥
       apart true e h = cc
       apart false e h = cc
 
-  committing_want : (e : Event) → Is_in x (unmet (conditions s g w e)) → Uncommitted s w e party k
-  committing_want (events.Commit contract who digests) h =
+  committing_requirement : (e : Event) → Is_in x (unmet (conditions s g w e)) → Uncommitted s w e party k
+  committing_requirement (events.Commit contract who digests) h =
       let f = is_failing (conditions s g w (events.Commit contract who digests)) x h in
-      by_place f.condition (in_from_contains (conditions s g w (events.Commit contract who digests)) f.condition f.there) f.wanting f.fails
+      by_place f.condition (in_from_contains (conditions s g w (events.Commit contract who digests)) f.condition f.there) f.outstanding f.fails
     where
-      by_place : (c : Condition) → Is_in c (conditions s g w (events.Commit contract who digests)) → c.1 ≡ x → c.0 ≡ false → Uncommitted s w (events.Commit contract who digests) party k
-      by_place c (inl e) q z = let no : wants.Advert contract ≡ x = sym (ap (λ (d : Condition). d.1) e) ∙ q in cc
+      by_place : (c : Condition) → Is_in c (conditions s g w (events.Commit contract who digests)) → c.1 ≡ x → c.0 ≡ false
+          → Uncommitted s w (events.Commit contract who digests) party k
+      by_place c (inl e) q z = let no : requirements.Advert contract ≡ x = sym (ap (λ (d : Condition). d.1) e) ∙ q in cc
       by_place c (inr i) q z =
           let m = from_map _ (secrets_at s contract who) c i in
-          let same : wants.Digest who contract m.0 ≡ x = sym (ap (λ (d : Condition). d.1) m.2) ∙ q in
+          let same : requirements.Digest who contract m.0 ≡ x = sym (ap (λ (d : Condition). d.1) m.2) ∙ q in
           let p : who ≡ party = ap digest_party same in
           let n : contract ≡ k = ap digest_contract same in
           record {
@@ -159,27 +160,27 @@ module _ (s : Setup) (g : Configuration) (w : World) (party : List ℕ) (k : ℕ
             is = λ j. events.Commit (n j) (p j) digests;
             dishonest = subst (λ (y : List ℕ). is_honest s y ≡ false) p (or_false _ _ (sym (ap (λ (d : Condition). d.0) m.2) ∙ z));
           }
-  committing_want (events.Advertise contract bindings) h =
+  committing_requirement (events.Advertise contract bindings) h =
       absurd (never (events.Advertise contract bindings) (no_digest_bound (deposit_names s contract) bindings) h)
-  committing_want (events.Endorse contract who) h = absurd (never (events.Endorse contract who) (no_digest_agreed g contract) h)
-  committing_want (events.Init contract who) h =
+  committing_requirement (events.Endorse contract who) h = absurd (never (events.Endorse contract who) (no_digest_agreed g contract) h)
+  committing_requirement (events.Init contract who) h =
       let people = participants_of (contract_at g.contracts contract) in
       let instance = compiled_instance s w contract in
       absurd (never (events.Init contract who) (all_append is_other (agreed g contract) (endorsed_for s w contract who instance people)
       (no_digest_agreed g contract) (no_digest_endorsed s w contract who instance people)) h)
-  committing_want (events.FireInit contract) h =
+  committing_requirement (events.FireInit contract) h =
       let ds = persistent (pre_of (contract_at g.contracts contract)) in
       absurd (never (events.FireInit contract) (all_append is_other (agreed g contract) (started g contract ds) (no_digest_agreed g contract)
       (no_digest_started g contract ds)) h)
-  committing_want (events.Reveal contract who name) h = absurd (never (events.Reveal contract who name) refl h)
-  committing_want (events.Authorise who n i) h = absurd h
-  committing_want (events.Fire n i) h =
+  committing_requirement (events.Reveal contract who name) h = absurd (never (events.Reveal contract who name) refl h)
+  committing_requirement (events.Authorise who n i) h = absurd h
+  committing_requirement (events.Fire n i) h =
       absurd (never (events.Fire n i) (no_digest_branch s.header.honest g n i (active_at g.active n) (branch_at g n i)) h)
-  committing_want (events.Post bytes) h = absurd h
-  committing_want (events.Sign who label digest) h = absurd h
-  committing_want (events.Give who inputs outputs) h = absurd h
-  committing_want (events.Append bytes) h = absurd h
-  committing_want (events.Mine blocks) h = absurd h
+  committing_requirement (events.Post bytes) h = absurd h
+  committing_requirement (events.Sign who label digest) h = absurd h
+  committing_requirement (events.Give who inputs outputs) h = absurd h
+  committing_requirement (events.Append bytes) h = absurd h
+  committing_requirement (events.Mine blocks) h = absurd h
 
 -- ---- a commitment among the candidates is one of the contract, by one who takes part
 
@@ -232,12 +233,12 @@ module _ (s : Setup) (g : Configuration) (w : World) (k : ℕ) (c : Advert) wher
     ]
   ]
 
--- ---- which event gives what is wanting
+-- ---- which event gives what is missing
 
 same_both : (x y : List ℕ) (m n : ℕ) → (bytes_eq x y && (m == n)) ≡ true → (x ≡ y) × (m ≡ n)
 same_both x y m n h = let p = and_parts (bytes_eq x y) (m == n) h in (bytes-true x y p.0, eqb-true m n p.1)
 
-commitment_is : (p : List ℕ) (k : ℕ) (e : Event) → is_commitment p k e ≡ true → IsGivenBy (wants.Commitment p k) e
+commitment_is : (p : List ℕ) (k : ℕ) (e : Event) → is_commitment p k e ≡ true → IsGivenBy (requirements.Commitment p k) e
 commitment_is p k (events.Commit contract who digests) h =
     let q = same_both who p contract k h in (digests, λ i. events.Commit (q.1 i) (q.0 i) digests)
 commitment_is p k _ h = cc
@@ -266,40 +267,40 @@ reveal_is p k secret (events.Reveal contract who name) h =
     λ j. events.Reveal (b.1 j) (b.0 j) (z j)
 reveal_is p k secret _ h = cc
 
-giver_is : (x : Want) (e : Event) → gives x e ≡ true → IsGivenBy x e
-giver_is (wants.Commitment p k) e h = commitment_is p k e h
-giver_is (wants.Endorsement p k) e h = endorsement_is p k e h
-giver_is (wants.Start p k) e h = start_is p k e h
-giver_is (wants.Authorisation p n i) e h = authorisation_is p n i e h
-giver_is (wants.Secret p k secret) e h = reveal_is p k secret e h
+giver_is : (x : Requirement) (e : Event) → gives x e ≡ true → IsGivenBy x e
+giver_is (requirements.Commitment p k) e h = commitment_is p k e h
+giver_is (requirements.Endorsement p k) e h = endorsement_is p k e h
+giver_is (requirements.Start p k) e h = start_is p k e h
+giver_is (requirements.Authorisation p n i) e h = authorisation_is p n i e h
+giver_is (requirements.Secret p k secret) e h = reveal_is p k secret e h
 giver_is _ e h = cc
 
 same_name : (p : List ℕ) (n : ℕ) → (bytes_eq p p && (n == n)) ≡ true
 same_name p n = and_from _ _ (bytes_refl p) (eq-eqb n n refl)
 
-is_giver : (x : Want) (e : Event) → IsGivenBy x e → gives x e ≡ true
-is_giver (wants.Commitment p k) e h = ap (is_commitment p k) h.1 ∙ same_name p k
-is_giver (wants.Endorsement p k) e h = ap (is_endorsement p k) h ∙ same_name p k
-is_giver (wants.Start p k) e h = ap (is_start p k) h ∙ same_name p k
-is_giver (wants.Authorisation p n i) e h =
+is_giver : (x : Requirement) (e : Event) → IsGivenBy x e → gives x e ≡ true
+is_giver (requirements.Commitment p k) e h = ap (is_commitment p k) h.1 ∙ same_name p k
+is_giver (requirements.Endorsement p k) e h = ap (is_endorsement p k) h ∙ same_name p k
+is_giver (requirements.Start p k) e h = ap (is_start p k) h ∙ same_name p k
+is_giver (requirements.Authorisation p n i) e h =
     ap (is_authorisation p n i) h ∙ and_from _ _ (same_name p n) (eq-eqb i i refl)
-is_giver (wants.Secret p k secret) e h =
+is_giver (requirements.Secret p k secret) e h =
     ap (is_reveal p k secret) h ∙ and_from _ _ (same_name p k) (bytes_refl secret)
 is_giver _ e h = absurd h
 
 -- ---- what is done comes, unless it halts
 
-answer_comes : (w : World) (d : Draft) (c : Option (List ℕ × List ℕ)) (u : Option HeldSecret)
+answer_comes : (w : World) (d : Pending) (c : Option (List ℕ × List ℕ)) (u : Option HeldSecret)
     → ruling_by d.outcome ≡ rulings.Can
-    → (ruling_of (settle w d c u) ≡ rulings.Can) ⊎ (ruling_of (settle w d c u) ≡ rulings.Halts)
+    → (ruling_of (apply w d c u) ≡ rulings.Can) ⊎ (ruling_of (apply w d c u) ≡ rulings.Halts)
 answer_comes w d (Some pair) u h = inr refl
 answer_comes w d None (Some held) h = inr refl
 answer_comes w d None None h = inl h
 
-pub comes_unless : (s : Setup) (w : World) (e : Event) → ruling_by (draft s w e).outcome ≡ rulings.Can
+pub comes_unless : (s : Setup) (w : World) (e : Event) → ruling_by (pending s w e).outcome ≡ rulings.Can
     → CanUnlessHalts s w e
 comes_unless s w e h =
-    let d = draft s w e in answer_comes w d (collision s.hash w.hashed d.hashes) (guess s w.posted d.posts d.allowed) h
+    let d = pending s w e in answer_comes w d (collision s.hash w.hashed d.hashes) (guess s w.posted d.posts d.allowed) h
 
 module _ (s : Setup) (w : World) (k : ℕ) (party : List ℕ) where
   -- digests that fit are taken from one who takes part, isn't honest and hasn't committed
@@ -308,7 +309,7 @@ module _ (s : Setup) (w : World) (k : ℕ) (party : List ℕ) where
       → repeated_digest s w k party digests ≡ None → CanUnlessHalts s w (events.Commit k party digests)
   takes_digests there told part free dishonest digests fit fresh =
       let strings = committed_strings s k party in
-      let last = committed_draft s (with_promise s w k party digests) k party strings in
+      let last = committed_pending s (with_promise s w k party digests) k party strings in
       comes_unless s w (events.Commit k party digests)
       (ap (λ r. ruling_by (unless r w [] (unless (first_reason (digest_row s w k party digests)) w strings last)).outcome) row
       ∙ ap (λ r. ruling_by (unless r w strings last).outcome) again)
@@ -355,32 +356,33 @@ module _ (s : Setup) (es : List Event) (run : IsRun s es) (k : ℕ) (c : Advert)
   same_contract : contract_at s.contracts k ≡ Some c
   same_contract = ap (λ cs. contract_at cs k) (sym tracks.constant.contracts) ∙ at
 
-  -- what is wanting for an event that is listed and may come, is wanting for it; and it is refused, and still ahead
-  record Lacks (p : Prospect) (x : Want) : Type 0 where
+  -- what is missing for an event that is listed and may come, is missing for it; and it is refused, and still ahead
+  record Lacks (p : Prospect) (x : Requirement) : Type 0 where
     event : Event
     is : p ≡ prospect s g w event
     candidate : Is_in event (candidates s g w k c)
-    wanting : Is_in x (wants_of s g w event)
+    outstanding : Is_in x (requirements_of s g w event)
     ahead : is_ahead s w event ≡ true
 
-  lacks : (p : Prospect) (x : Want) → is_never x ≡ false → Is_in p listed → Is_in x p.wants → Lacks p x
+  lacks : (p : Prospect) (x : Requirement) → is_never x ≡ false → Is_in p listed → Is_in x p.requirements → Lacks p x
   lacks p x may i h =
       let m = from_map (prospect s g w) (filter (λ e. is_shown s w e (ruling s w e)) (candidates s g w k c)) p (in_useful _ p (in_living _ p i)) in
       let f = in_filter (λ e. is_shown s w e (ruling s w e)) (candidates s g w k c) m.0 m.1 in
-      by_ruling m.0 m.2 f.0 (ruling s w m.0) f.1 (subst (λ (q : Prospect). Is_in x q.wants) m.2 h)
+      by_ruling m.0 m.2 f.0 (ruling s w m.0) f.1 (subst (λ (q : Prospect). Is_in x q.requirements) m.2 h)
     where
       by_ruling : (e : Event) → p ≡ prospect s g w e → Is_in e (candidates s g w k c) → (r : Ruling) → is_shown s w e r ≡ true
-          → Is_in x (wants_by (wants_of s g w e) r) → Lacks p x
+          → Is_in x (requirements_by (requirements_of s g w e) r) → Lacks p x
       by_ruling e q j rulings.Can t n = absurd n
-      by_ruling e q j (rulings.Cannot reason) t n = record { event = e; is = q; candidate = j; wanting = lacks_condition reason (wants_of s g w e) x may n; ahead = t }
+      by_ruling e q j (rulings.Cannot reason) t n =
+          record { event = e; is = q; candidate = j; outstanding = lacks_condition reason (requirements_of s g w e) x may n; ahead = t }
       by_ruling e q j rulings.Halts t n = absurd n
 
-  -- whose digest is wanting may commit it
-  commits : (p : Prospect) (party : List ℕ) (j : ℕ) (secret : List ℕ) → Is_in p listed → Is_in (wants.Digest party j secret) p.wants
+  -- whose digest is missing may commit it
+  commits : (p : Prospect) (party : List ℕ) (j : ℕ) (secret : List ℕ) → Is_in p listed → Is_in (requirements.Digest party j secret) p.requirements
       → has_advert g.advertised j ≡ true → Commits s w j party
   commits p party j secret i h told =
-      let l = lacks p (wants.Digest party j secret) refl i h in
-      let u = committing_want s g w party j secret l.event l.wanting in
+      let l = lacks p (requirements.Digest party j secret) refl i h in
+      let u = committing_requirement s g w party j secret l.event l.outstanding in
       let o = commitment_of s g w k c j party u.digests (subst (λ (e : Event). Is_in e (candidates s g w k c)) u.is l.candidate) in
       let there : contract_at s.contracts j ≡ Some c = ap (contract_at s.contracts) o.here ∙ same_contract in
       let advertised : is_advertised w j ≡ true = ap (λ told. has_advert told j) (sym tracks.advertised) ∙ told in
@@ -397,48 +399,48 @@ module _ (s : Setup) (es : List Event) (run : IsRun s es) (k : ℕ) (c : Advert)
       is_false false h = refl
 
   -- what nothing stands in the way of
-  by_hand : (p : Prospect) (x : Want) → Is_in p listed → Is_in x p.wants → is_open g x ≡ true → GivenByHand s w x
-  by_hand p (wants.Digest party j secret) i h o = commits p party j secret i h o
-  by_hand p (wants.Posted party secret) i h o = λ bytes. comes_unless s w (events.Post bytes) refl
-  by_hand p (wants.Advert j) i h o = cc
-  by_hand p (wants.Deposit y) i h o = cc
-  by_hand p (wants.Gone y) i h o = cc
-  by_hand p wants.NobodyHonest i h o = cc
-  by_hand p (wants.Missing y) i h o = cc
-  by_hand p (wants.BadLength y) i h o = cc
-  by_hand p (wants.Repeated y) i h o = cc
-  by_hand p (wants.Commitment party j) i h o = cc
-  by_hand p (wants.Endorsement party j) i h o = cc
-  by_hand p (wants.Start party j) i h o = cc
-  by_hand p (wants.Beginning j) i h o = cc
-  by_hand p (wants.Height t m) i h o = cc
-  by_hand p (wants.Authorisation party n j) i h o = cc
-  by_hand p (wants.Put y) i h o = cc
-  by_hand p (wants.Secret party j secret) i h o = cc
-  by_hand p wants.Predicate i h o = cc
+  by_hand : (p : Prospect) (x : Requirement) → Is_in p listed → Is_in x p.requirements → is_open g x ≡ true → GivenByHand s w x
+  by_hand p (requirements.Digest party j secret) i h o = commits p party j secret i h o
+  by_hand p (requirements.Posted party secret) i h o = λ bytes. comes_unless s w (events.Post bytes) refl
+  by_hand p (requirements.Advert j) i h o = cc
+  by_hand p (requirements.Deposit y) i h o = cc
+  by_hand p (requirements.Gone y) i h o = cc
+  by_hand p requirements.NobodyHonest i h o = cc
+  by_hand p (requirements.Missing y) i h o = cc
+  by_hand p (requirements.BadLength y) i h o = cc
+  by_hand p (requirements.Repeated y) i h o = cc
+  by_hand p (requirements.Commitment party j) i h o = cc
+  by_hand p (requirements.Endorsement party j) i h o = cc
+  by_hand p (requirements.Start party j) i h o = cc
+  by_hand p (requirements.Beginning j) i h o = cc
+  by_hand p (requirements.Height t m) i h o = cc
+  by_hand p (requirements.Authorisation party n j) i h o = cc
+  by_hand p (requirements.Put y) i h o = cc
+  by_hand p (requirements.Secret party j secret) i h o = cc
+  by_hand p requirements.Predicate i h o = cc
 
-  is_open_hand : (x : Want) → GivenByHand s w x → is_open g x ≡ true
-  is_open_hand (wants.Digest party j secret) h = ap (λ told. has_advert told j) tracks.advertised ∙ h.advertised
-  is_open_hand (wants.Posted party secret) h = refl
-  is_open_hand (wants.Advert j) h = absurd h
-  is_open_hand (wants.Deposit y) h = absurd h
-  is_open_hand (wants.Gone y) h = absurd h
-  is_open_hand wants.NobodyHonest h = absurd h
-  is_open_hand (wants.Missing y) h = absurd h
-  is_open_hand (wants.BadLength y) h = absurd h
-  is_open_hand (wants.Repeated y) h = absurd h
-  is_open_hand (wants.Commitment party j) h = absurd h
-  is_open_hand (wants.Endorsement party j) h = absurd h
-  is_open_hand (wants.Start party j) h = absurd h
-  is_open_hand (wants.Beginning j) h = absurd h
-  is_open_hand (wants.Height t m) h = absurd h
-  is_open_hand (wants.Authorisation party n j) h = absurd h
-  is_open_hand (wants.Put y) h = absurd h
-  is_open_hand (wants.Secret party j secret) h = absurd h
-  is_open_hand wants.Predicate h = absurd h
+  is_open_hand : (x : Requirement) → GivenByHand s w x → is_open g x ≡ true
+  is_open_hand (requirements.Digest party j secret) h = ap (λ told. has_advert told j) tracks.advertised ∙ h.advertised
+  is_open_hand (requirements.Posted party secret) h = refl
+  is_open_hand (requirements.Advert j) h = absurd h
+  is_open_hand (requirements.Deposit y) h = absurd h
+  is_open_hand (requirements.Gone y) h = absurd h
+  is_open_hand requirements.NobodyHonest h = absurd h
+  is_open_hand (requirements.Missing y) h = absurd h
+  is_open_hand (requirements.BadLength y) h = absurd h
+  is_open_hand (requirements.Repeated y) h = absurd h
+  is_open_hand (requirements.Commitment party j) h = absurd h
+  is_open_hand (requirements.Endorsement party j) h = absurd h
+  is_open_hand (requirements.Start party j) h = absurd h
+  is_open_hand (requirements.Beginning j) h = absurd h
+  is_open_hand (requirements.Height t m) h = absurd h
+  is_open_hand (requirements.Authorisation party n j) h = absurd h
+  is_open_hand (requirements.Put y) h = absurd h
+  is_open_hand (requirements.Secret party j secret) h = absurd h
+  is_open_hand requirements.Predicate h = absurd h
 
   -- an event that is listed as one that can come
-  by_event : (x : Want) → is_given listed x ≡ true → GivenByEvent s g w (outlook s g w k c) x
+  by_event : (x : Requirement) → is_given listed x ≡ true → GivenByEvent s g w (outlook s g w k c) x
   by_event x h =
       let f = any_from (λ (p : Prospect). can_come p.ruling && gives x p.event) listed h in
       let t = and_parts (can_come f.one.ruling) (gives x f.one.event) f.passes in
@@ -455,7 +457,7 @@ module _ (s : Setup) (es : List Event) (run : IsRun s es) (k : ℕ) (c : Advert)
       by_ruling (rulings.Cannot reason) h = cc
       by_ruling rulings.Halts h = cc
 
-  is_given_event : (x : Want) → GivenByEvent s g w (outlook s g w k c) x → is_given listed x ≡ true
+  is_given_event : (x : Requirement) → GivenByEvent s g w (outlook s g w k c) x → is_given listed x ≡ true
   is_given_event x h =
       any_in (λ (p : Prospect). can_come p.ruling && gives x p.event) listed (prospect s g w h.event)
       (in_from_contains listed (prospect s g w h.event) h.listed)
@@ -472,15 +474,15 @@ module _ (s : Setup) (es : List Event) (run : IsRun s es) (k : ℕ) (c : Advert)
           → Contains (participants c) party × CanGive s g w (outlook s g w k c) party
       forth party h =
           let f = in_filter (λ p. is_waited_for g listed p) (participants c) party (in_from_contains (outlook s g w k c).waits party h) in
-          let p = any_from (λ (q : Prospect). list_any (λ x. is_for x party && is_at_hand g listed x) q.wants) listed f.1 in
-          let x = any_from (λ x. is_for x party && is_at_hand g listed x) p.one.wants p.passes in
+          let p = any_from (λ (q : Prospect). list_any (λ x. is_for x party && is_at_hand g listed x) q.requirements) listed f.1 in
+          let x = any_from (λ x. is_for x party && is_at_hand g listed x) p.one.requirements p.passes in
           let t = and_parts (is_for x.one party) (is_at_hand g listed x.one) x.passes in (
             contains_from_in (participants c) party f.0,
             record {
               lacking = p.one;
               shown = contains_from_in listed p.one p.there;
-              want = x.one;
-              wanting = contains_from_in p.one.wants x.one x.there;
+              requirement = x.one;
+              outstanding = contains_from_in p.one.requirements x.one x.there;
               its = its (awaited x.one) party t.0;
               given = elim (or_cases (is_open g x.one) (is_given listed x.one) t.1) [
                 | inl e ↦ inr (by_hand p.one x.one p.there x.there e)
@@ -492,16 +494,16 @@ module _ (s : Setup) (es : List Event) (run : IsRun s es) (k : ℕ) (c : Advert)
       back : (party : List ℕ) → Contains (participants c) party → CanGive s g w (outlook s g w k c) party
           → Contains (outlook s g w k c).waits party
       back party i h =
-          let at_hand : is_at_hand g listed h.want ≡ true = by_given h.want h.given in
-          let mine : is_for h.want party ≡ true = ap (λ o. is_for_whom o party) h.its ∙ bytes_refl party in
+          let at_hand : is_at_hand g listed h.requirement ≡ true = by_given h.requirement h.given in
+          let mine : is_for h.requirement party ≡ true = ap (λ o. is_for_whom o party) h.its ∙ bytes_refl party in
           contains_from_in (outlook s g w k c).waits party
           (filter_has (λ p. is_waited_for g listed p) (participants c) party (in_from_contains (participants c) party i)
-          (any_in (λ (q : Prospect). list_any (λ x. is_for x party && is_at_hand g listed x) q.wants) listed h.lacking
+          (any_in (λ (q : Prospect). list_any (λ x. is_for x party && is_at_hand g listed x) q.requirements) listed h.lacking
           (in_from_contains listed h.lacking h.shown)
-          (any_in (λ x. is_for x party && is_at_hand g listed x) h.lacking.wants h.want
-          (in_from_contains h.lacking.wants h.want h.wanting) (and_from _ _ mine at_hand))))
+          (any_in (λ x. is_for x party && is_at_hand g listed x) h.lacking.requirements h.requirement
+          (in_from_contains h.lacking.requirements h.requirement h.outstanding) (and_from _ _ mine at_hand))))
         where
-          by_given : (x : Want) → (GivenByEvent s g w (outlook s g w k c) x ⊎ GivenByHand s w x) → is_at_hand g listed x ≡ true
+          by_given : (x : Requirement) → (GivenByEvent s g w (outlook s g w k c) x ⊎ GivenByHand s w x) → is_at_hand g listed x ≡ true
           by_given x (inl e) = or_right (is_open g x) _ (is_given_event x e)
           by_given x (inr e) = or_left _ _ (is_open_hand x e)
 

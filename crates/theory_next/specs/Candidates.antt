@@ -5,7 +5,7 @@ use Rattle.spec_calculus.specs.Configuration.{Configuration}
 use Rattle.spec_run.specs.declared.event.Event.{Event}
 use Rattle.spec_run.specs.Setup.{Setup}
 use Rattle.spec_run.specs.World.{World}
-use Rattle.spec_run.specs.Draft.{Draft, Went}
+use Rattle.spec_run.specs.Pending.{Pending, Went}
 use Rattle.spec_run.specs.Event.{event}
 use Rattle.spec_run.specs.Values.{is_refused}
 use Rattle.spec_run.specs.Translation.{last_configuration, last_world}
@@ -20,10 +20,10 @@ use Rattle.spec_next.specs.Prospects.{ruling, prospect, outlooks}
 
 -- the event goes on in this world, and isn't refused: it is done or accepted
 pub record GoesThrough (s : Setup) (w : World) (e : Event) : Type 0 where
-  pub draft : Draft
+  pub pending : Pending
   pub next : World
-  pub went : event s w e ≡ Went draft next
-  pub passed : is_refused draft.outcome ≡ false
+  pub went : event s w e ≡ Went pending next
+  pub passed : is_refused pending.outcome ≡ false
 
 -- an event can come exactly where it goes through
 abbrev pub CanIsMeant : Type 0

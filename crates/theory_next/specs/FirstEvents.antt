@@ -11,7 +11,7 @@ use Rattle.spec_run.specs.declared.event.Event.{Event}
 use Rattle.spec_run.specs.declared.event.Event.TheVariants as events
 use Rattle.spec_run.specs.declared.header.HeldSecret.{HeldSecret}
 use Rattle.spec_run.specs.Setup.{Setup, is_declared}
-use Rattle.spec_run.specs.Draft.{Halt, Collided, Guessed}
+use Rattle.spec_run.specs.Pending.{Halt, Collided, Guessed}
 use Rattle.spec_run.specs.Values.{is_refused}
 use Rattle.spec_run.specs.Committing.{is_secret_long}
 use Rattle.spec_run.specs.Conditions.{HashesBytes}

@@ -1,5 +1,5 @@
 pub mod Candidates
-pub mod Wants
+pub mod Requirements
 pub mod Ready
 pub mod MetAlone
 pub mod Once

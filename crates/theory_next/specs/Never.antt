@@ -8,29 +8,29 @@ use Rattle.spec_run.specs.declared.event.Event.{Event}
 use Rattle.spec_run.specs.declared.outcome.Reason.{Reason}
 use Rattle.spec_run.specs.Setup.{Setup}
 use Rattle.spec_run.specs.World.{World}
-use Rattle.spec_next.specs.declared.want.Want.{Want}
+use Rattle.spec_next.specs.declared.requirement.Requirement.{Requirement}
 use Rattle.spec_next.specs.declared.outlook.Ruling.TheVariants as rulings
 use Rattle.spec_next.specs.declared.outlook.Prospect.{Prospect}
 use Rattle.spec_next.specs.Candidates.{actives_of, candidates}
-use Rattle.spec_next.specs.Wants.{wants_of}
+use Rattle.spec_next.specs.Requirements.{requirements_of}
 use Rattle.spec_next.specs.Prospects.{ruling, lasting, is_never, is_refused, is_lost, goes_on, takes, reveals, useful, prospect, prospects_of, outlook}
 
 -- ---- what is said of an event
 
 -- all that an event with this refusal lacks: what stays so of the refusal, and its conditions that fail
-abbrev pub all_lacking : Setup → Configuration → World → Event → Reason → List Want
-all_lacking s g w e reason = lasting reason ++ wants_of s g w e
+abbrev pub all_lacking : Setup → Configuration → World → Event → Reason → List Requirement
+all_lacking s g w e reason = lasting reason ++ requirements_of s g w e
 
 pub record SaysWhatLacks (s : Setup) (g : Configuration) (w : World) (e : Event) : Type 0 where
   -- nothing, where it isn't refused
-  pub nothing : is_refused (ruling s w e) ≡ false → (prospect s g w e).wants ≡ []
+  pub nothing : is_refused (ruling s w e) ≡ false → (prospect s g w e).requirements ≡ []
   -- all that it lacks, where each may come
   pub all : (reason : Reason) → ruling s w e ≡ rulings.Cannot reason
-      → ((x : Want) → Contains (all_lacking s g w e reason) x → is_never x ≡ false)
-      → (prospect s g w e).wants ≡ all_lacking s g w e reason
+      → ((x : Requirement) → Contains (all_lacking s g w e reason) x → is_never x ≡ false)
+      → (prospect s g w e).requirements ≡ all_lacking s g w e reason
   -- where some never comes, exactly what never comes
-  pub never : (reason : Reason) → ruling s w e ≡ rulings.Cannot reason → (y : Want) → Contains (all_lacking s g w e reason) y → is_never y ≡ true
-      → (x : Want) → Contains (prospect s g w e).wants x ↔ (Contains (all_lacking s g w e reason) x × (is_never x ≡ true))
+  pub never : (reason : Reason) → ruling s w e ≡ rulings.Cannot reason → (y : Requirement) → Contains (all_lacking s g w e reason) y → is_never y ≡ true
+      → (x : Requirement) → Contains (prospect s g w e).requirements x ↔ (Contains (all_lacking s g w e reason) x × (is_never x ≡ true))
 
 -- ---- what is shown of a contract
 

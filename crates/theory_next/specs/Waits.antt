@@ -1,4 +1,4 @@
--- What is claimed of the parties on whom a contract waits: they are exactly those who can give now something that is wanting.
+-- What is claimed of the parties on whom a contract waits: they are exactly those who can give now something that is missing.
 use Rattle.std.specs.Prelude.{◌≡◌, ◌↔◌, ◌⊎◌, ℕ, List, true, Some, None}
 use Rattle.std.specs.List.{Contains}
 use Rattle.spec_terms.specs.Advert.{Advert}
@@ -12,8 +12,8 @@ use Rattle.spec_run.specs.World.{World, is_advertised}
 use Rattle.spec_run.specs.Committing.{names_fit, repeated_digest}
 use Rattle.spec_run.specs.Translation.{last_configuration, last_world}
 use Rattle.spec_run.specs.Statements.{IsRun}
-use Rattle.spec_next.specs.declared.want.Want.{Want}
-use Rattle.spec_next.specs.declared.want.Want.TheVariants as wants
+use Rattle.spec_next.specs.declared.requirement.Requirement.{Requirement}
+use Rattle.spec_next.specs.declared.requirement.Requirement.TheVariants as requirements
 use Rattle.spec_next.specs.declared.outlook.Prospect.{Prospect}
 use Rattle.spec_next.specs.declared.outlook.Outlook.{Outlook}
 use Rattle.spec_next.specs.Prospects.{awaited, prospect, outlook}
@@ -23,18 +23,18 @@ use Rattle.theory_next.specs.Ready.{CanUnlessHalts}
 -- ---- what can be given now
 
 -- the event that gives it, if it is one that is listed
-abbrev pub IsGivenBy : Want → Event → Type 0
-IsGivenBy (wants.Commitment party k) e = (digests : List (List ℕ × List ℕ)) × (e ≡ events.Commit k party digests)
-IsGivenBy (wants.Endorsement party k) e = e ≡ events.Endorse k party
-IsGivenBy (wants.Start party k) e = e ≡ events.Init k party
-IsGivenBy (wants.Authorisation party n i) e = e ≡ events.Authorise party n i
-IsGivenBy (wants.Secret party k secret) e = e ≡ events.Reveal k party secret
+abbrev pub IsGivenBy : Requirement → Event → Type 0
+IsGivenBy (requirements.Commitment party k) e = (digests : List (List ℕ × List ℕ)) × (e ≡ events.Commit k party digests)
+IsGivenBy (requirements.Endorsement party k) e = e ≡ events.Endorse k party
+IsGivenBy (requirements.Start party k) e = e ≡ events.Init k party
+IsGivenBy (requirements.Authorisation party n i) e = e ≡ events.Authorise party n i
+IsGivenBy (requirements.Secret party k secret) e = e ≡ events.Reveal k party secret
 IsGivenBy _ e = ⊥
 
 -- it is listed, and goes through
-pub record GivenByEvent (s : Setup) (g : Configuration) (w : World) (o : Outlook) (want : Want) : Type 0 where
+pub record GivenByEvent (s : Setup) (g : Configuration) (w : World) (o : Outlook) (requirement : Requirement) : Type 0 where
   pub event : Event
-  pub gives_it : IsGivenBy want event
+  pub gives_it : IsGivenBy requirement event
   pub listed : Contains o.prospects (prospect s g w event)
   pub goes : GoesThrough s w event
 
@@ -46,19 +46,19 @@ pub record Commits (s : Setup) (w : World) (k : ℕ) (party : List ℕ) : Type 0
       → CanUnlessHalts s w (events.Commit k party digests)
 
 -- an event gives it that isn't listed, since its digests or its string are the party's to choose
-abbrev pub GivenByHand : Setup → World → Want → Type 0
-GivenByHand s w (wants.Digest party k secret) = Commits s w k party
-GivenByHand s w (wants.Posted party secret) = (bytes : List ℕ) → CanUnlessHalts s w (events.Post bytes)
+abbrev pub GivenByHand : Setup → World → Requirement → Type 0
+GivenByHand s w (requirements.Digest party k secret) = Commits s w k party
+GivenByHand s w (requirements.Posted party secret) = (bytes : List ℕ) → CanUnlessHalts s w (events.Post bytes)
 GivenByHand s w _ = ⊥
 
--- the party can give what is wanting for one of these events
+-- the party can give what is missing for one of these events
 pub record CanGive (s : Setup) (g : Configuration) (w : World) (o : Outlook) (party : List ℕ) : Type 0 where
   pub lacking : Prospect
   pub shown : Contains o.prospects lacking
-  pub want : Want
-  pub wanting : Contains lacking.wants want
-  pub its : awaited want ≡ Some party
-  pub given : GivenByEvent s g w o want ⊎ GivenByHand s w want
+  pub requirement : Requirement
+  pub outstanding : Contains lacking.requirements requirement
+  pub its : awaited requirement ≡ Some party
+  pub given : GivenByEvent s g w o requirement ⊎ GivenByHand s w requirement
 
 -- ---- the claim
 

@@ -1,4 +1,5 @@
-//! What follows of what comes next in a run: each theorem is the contract of a function that does nothing.
+//! Theorems on what `bitml next` says: what can come, what is missing, that nothing is listed twice, and that the first
+//! lines begin the contract. Each is the contract of a function that does nothing.
 #![tactic(auto)]
 
 ghost use Rattle.theory_next.specs.Candidates.{CanIsMeant, OffersAreCandidates, OffersAreSaid};
@@ -11,7 +12,7 @@ ghost use Rattle.theory_next.specs.Never.{NeverIsSaid};
 ghost use Rattle.theory_next.specs.Once.{CandidatesStandOnce};
 ghost use Rattle.theory_next.specs.Ready.{ReadyComesTheorem};
 ghost use Rattle.theory_next.specs.Waits.{WaitsAreMeant};
-ghost use Rattle.theory_next.specs.Wants.{WantsAreExactTheorem};
+ghost use Rattle.theory_next.specs.Requirements.{RequirementsAreExactTheorem};
 
 /// An event is said to be one that can come exactly where it is done or accepted, and halts nothing.
 pub fn can_is_meant()
@@ -33,18 +34,18 @@ pub fn offers_are_said()
     ensures { OffersAreSaid }
 {}
 
-/// What is wanting for an event is exactly what fails of its conditions, and nothing is wanting exactly where all are met.
-pub fn wants_are_exact()
-    ensures { WantsAreExactTheorem }
+/// What is missing for an event is exactly what fails of its conditions, and nothing is missing exactly where all are met.
+pub fn requirements_are_exact()
+    ensures { RequirementsAreExactTheorem }
 {}
 
-/// After a run a contract begins, and a branch of an active contract is taken, wherever nothing is wanting for it, unless
-/// it halts the run: so of a beginning or a branch that can't come something is always wanting.
+/// After a run a contract begins, and a branch of an active contract is taken, wherever nothing is missing for it, unless
+/// it halts the run: so of a beginning or a branch that can't come something is always missing.
 pub fn ready_comes()
     ensures { ReadyComesTheorem }
 {}
 
-/// After a run that doesn't halt, where an authorisation or a height alone is wanting for a branch, the event that meets it
+/// After a run that doesn't halt, where an authorisation or a height alone is missing for a branch, the event that meets it
 /// can come, and after it the branch can be taken, unless that halts the run.
 pub fn met_alone()
     ensures { MetAloneTheorem }
@@ -60,7 +61,7 @@ pub fn refusals_last()
     ensures { RefusalsLast }
 {}
 
-/// After a run a contract waits exactly for those of its participants who can give now something that is wanting for an event of
+/// After a run a contract waits exactly for those of its participants who can give now something that is missing for an event of
 /// it that is listed.
 pub fn waits_are_meant()
     ensures { WaitsAreMeant }

@@ -5,7 +5,7 @@ use Rattle.spec_run.specs.declared.outcome.Record.{Record}
 use Rattle.spec_run.specs.Setup.{Setup}
 use Rattle.spec_run.specs.World.{World}
 use Rattle.spec_run.specs.Conditions.{IsSetup}
-use Rattle.spec_run.specs.Event.{draft, record_of, opening_world}
+use Rattle.spec_run.specs.Event.{pending, record_of, opening_world}
 use Rattle.spec_run.specs.Translation.{opening_configuration, last_configuration, last_world}
 use Rattle.spec_run.specs.Statements.{spends_with_leave}
 use Rattle.theory_run.proofs.Following.{Keeps, turn_at, run_posts, kept_at_end, holds_throughout}
@@ -32,7 +32,7 @@ keeps_signed s setup z = record {
   step = λ before g w e k is calm unguessed begins.
       let t = turn_at s z g w e in
       let all = all_after s setup z before g w k e is calm unguessed begins in
-      (signed_by s z (before ++ record_of e (draft s w e) ∷ []) t.configuration t.world all, all);
+      (signed_by s z (before ++ record_of e (pending s w e) ∷ []) t.configuration t.world all, all);
 }
 
 pub authorisations_signed : AuthorisationsHaveSignatures

@@ -59,7 +59,8 @@ module _ (ds : List (List ℕ × Holding)) (fee : ℕ) where
     Under : ℤ → term.Guarded → Type 0
     Under balance (auth party body) = Under balance body
     Under balance (after height body) = Under balance body
-    Under balance (put_reveal puts reveals test next) = (is_bad fee (after_put ds fee balance puts) (position next) ≡ false) × Each (after_put ds fee balance puts) next
+    Under balance (put_reveal puts reveals test next) =
+        (is_bad fee (after_put ds fee balance puts) (position next) ≡ false) × Each (after_put ds fee balance puts) next
     Under balance (withdraw party) = Unit {0}
     Under balance (split parts) = EachPart parts
 
@@ -97,12 +98,14 @@ module _ (ds : List (List ℕ × Holding)) (fee : ℕ) where
   under_core balance (withdraw party) h = h
   under_core balance (split parts) h = h
 
-  each_at : (balance : ℤ) (c : Contract) (i : ℕ) (b : term.Guarded) → Each balance c → slice_get (branches c) i ≡ Some b → (is_bad fee balance (at_branch b) ≡ false) × Under balance b
+  each_at : (balance : ℤ) (c : Contract) (i : ℕ) (b : term.Guarded) → Each balance c → slice_get (branches c) i ≡ Some b
+      → (is_bad fee balance (at_branch b) ≡ false) × Under balance b
   each_at balance no_branch i b h e = cc
   each_at balance (branch d c) zero b h e = let z : d ≡ b = cc in subst (λ y. (is_bad fee balance (at_branch y) ≡ false) × Under balance y) z (h.0, h.1)
   each_at balance (branch d c) (suc i) b h e = each_at balance c i b h.2 e
 
-  part_at : (ps : Parts) (i : ℕ) (p : ℕ × Contract) → EachPart ps → slice_get (parts_list ps) i ≡ Some p → (is_bad fee (pos (p.0)) (position (p.1)) ≡ false) × Each (pos (p.0)) (p.1)
+  part_at : (ps : Parts) (i : ℕ) (p : ℕ × Contract) → EachPart ps → slice_get (parts_list ps) i ≡ Some p
+      → (is_bad fee (pos (p.0)) (position (p.1)) ≡ false) × Each (pos (p.0)) (p.1)
   part_at no_part i p h e = cc
   part_at (part v c ps) zero p h e = let z : (let q : ℕ × Contract = (v, c) in q) ≡ p = cc in subst (λ (q : ℕ × Contract). (is_bad fee (pos (q.0)) (position (q.1)) ≡ false) × Each (pos (q.0)) (q.1)) z (h.0, h.1)
   part_at (part v c ps) (suc i) p h e = part_at ps i p h.2 e
@@ -128,7 +131,8 @@ module _ (hash : List ℕ → List ℕ) (st : Instance) where
   Good (by_path.at_position here choice) = (is_bad fee (pos here.output.value) (position choice) ≡ false) × Each ds fee (pos here.output.value) choice
   Good (by_path.at_branch here i b) = (is_bad fee (pos here.output.value) (at_branch b) ≡ false) × Under ds fee (pos here.output.value) b
 
-  branch_good : (here : Standing) (choice : Contract) (i : ℕ) (next : PathEnd) → Each ds fee (pos here.output.value) choice → branch_end here choice i ≡ Some next → Good next
+  branch_good : (here : Standing) (choice : Contract) (i : ℕ) (next : PathEnd) → Each ds fee (pos here.output.value) choice
+      → branch_end here choice i ≡ Some next → Good next
   branch_good here choice i next h e = by_branch (slice_get (branches choice) i) refl e
     where
       by_branch : (o : Option term.Guarded) → slice_get (branches choice) i ≡ o → option_map (by_path.at_branch here i) o ≡ Some next → Good next
@@ -138,7 +142,8 @@ module _ (hash : List ℕ → List ℕ) (st : Instance) where
   abbrev GoodPosition : Standing × Contract → Type 0
   GoodPosition p = (is_bad fee (pos p.0.output.value) (position p.1) ≡ false) × Each ds fee (pos p.0.output.value) p.1
 
-  continued_good : (here : Standing) (i : ℕ) (b c : term.Guarded) (p : Standing × Contract) → Under ds fee (pos here.output.value) c → continued_end hash st here i b c ≡ Some p → GoodPosition p
+  continued_good : (here : Standing) (i : ℕ) (b c : term.Guarded) (p : Standing × Contract) → Under ds fee (pos here.output.value) c
+      → continued_end hash st here i b c ≡ Some p → GoodPosition p
   continued_good here i b (put_reveal puts reveals test next) p h e =
       let q = or_parts (at_core (is_uneven fee (after_put ds fee (pos here.output.value) puts)) (position next)) (is_short fee (after_put ds fee (pos here.output.value) puts) (position next)) h.0 in
       let v = difference here.output.value (value_of_puts ds puts) fee q.1 in
@@ -152,12 +157,15 @@ module _ (hash : List ℕ → List ℕ) (st : Instance) where
   continued_good here i b (auth party body) p h e = cc
   continued_good here i b (after height body) p h e = cc
 
-  part_good : (here : Standing) (i k : ℕ) (b c : term.Guarded) (next : PathEnd) → Under ds fee (pos here.output.value) c → part_end hash st here i b k c ≡ Some next → Good next
+  part_good : (here : Standing) (i k : ℕ) (b c : term.Guarded) (next : PathEnd) → Under ds fee (pos here.output.value) c
+      → part_end hash st here i b k c ≡ Some next → Good next
   part_good here i k b (put_reveal puts reveals test n) next h e = cc
   part_good here i k b (withdraw party) next h e = cc
   part_good here i k b (split parts) next h e = by_part (slice_get (parts_list parts) k) refl e
     where
-      by_part : (o : Option (ℕ × Contract)) → slice_get (parts_list parts) k ≡ o → option_map (λ (p : ℕ × Contract). by_path.at_position (part_standing hash st (branch_path here.position i) (branch_unsigned hash st here i b) k p.0 p.1) p.1) o ≡ Some next → Good next
+      by_part : (o : Option (ℕ × Contract)) → slice_get (parts_list parts) k ≡ o
+          → option_map (λ (p : ℕ × Contract). by_path.at_position
+          (part_standing hash st (branch_path here.position i) (branch_unsigned hash st here i b) k p.0 p.1) p.1) o ≡ Some next → Good next
       by_part None f x = cc
       by_part (Some p) f x =
           let z : by_path.at_position (part_standing hash st (branch_path here.position i) (branch_unsigned hash st here i b) k p.0 p.1) p.1 ≡ next = cc in
@@ -170,7 +178,8 @@ module _ (hash : List ℕ → List ℕ) (st : Instance) where
   next_good (Into k) (by_path.at_position here choice) next h e = cc
   next_good (To j) (by_path.at_branch here i b) next h e = by_continued (continued_end hash st here i b (core b)) refl e
     where
-      by_continued : (o : Option (Standing × Contract)) → continued_end hash st here i b (core b) ≡ o → option_and_then (λ (p : Standing × Contract). branch_end p.0 p.1 j) o ≡ Some next → Good next
+      by_continued : (o : Option (Standing × Contract)) → continued_end hash st here i b (core b) ≡ o
+          → option_and_then (λ (p : Standing × Contract). branch_end p.0 p.1 j) o ≡ Some next → Good next
       by_continued None f x = cc
       by_continued (Some p) f x = branch_good p.0 p.1 j next (continued_good here i b (core b) p (under_core ds fee (pos here.output.value) b h.1) f).1 x
   next_good (Into k) (by_path.at_branch here i b) next h e = part_good here i k b (core b) next (under_core ds fee (pos here.output.value) b h.1) e
@@ -179,7 +188,8 @@ module _ (hash : List ℕ → List ℕ) (st : Instance) where
   from_good [] here end h e = let z : here ≡ end = cc in subst Good z h
   from_good (step ∷ path) here end h e = by_next (next_end hash st step here) refl e (λ next f x. from_good path next end (next_good step here next h f) x)
     where
-      by_next : (o : Option PathEnd) → next_end hash st step here ≡ o → option_and_then (λ (next : PathEnd). end_from hash st next path) o ≡ Some end → ((next : PathEnd) → next_end hash st step here ≡ Some next → end_from hash st next path ≡ Some end → Good end) → Good end
+      by_next : (o : Option PathEnd) → next_end hash st step here ≡ o → option_and_then (λ (next : PathEnd). end_from hash st next path) o
+          ≡ Some end → ((next : PathEnd) → next_end hash st step here ≡ Some next → end_from hash st next path ≡ Some end → Good end) → Good end
       by_next None f x go = cc
       by_next (Some next) f x go = go next f x
 
@@ -210,7 +220,8 @@ module _ (hash : List ℕ → List ℕ) (st : Instance) where
         by_stand (Some here) f x = by_kind here (from_good q (by_path.at_position (root_standing hash st) st.advert.root) here root_good f) x
 
     -- a split's parts and the fee make up the value of the position
-    pub split_even : (q : List PathStep) (here : Standing) (choice : Contract) (i : ℕ) (b : term.Guarded) (ps : Parts) → position_at hash st q ≡ Some (here, choice) → slice_get (branches choice) i ≡ Some b → core b ≡ split ps → sum_of_parts ps ≤ here.output.value
+    pub split_even : (q : List PathStep) (here : Standing) (choice : Contract) (i : ℕ) (b : term.Guarded) (ps : Parts)
+        → position_at hash st q ≡ Some (here, choice) → slice_get (branches choice) i ≡ Some b → core b ≡ split ps → sum_of_parts ps ≤ here.output.value
     split_even q here choice i b ps e t c =
         let g = position_good q (here, choice) e in
         let h = each_at ds fee (pos here.output.value) choice i b g.1 t in
@@ -270,7 +281,8 @@ nth_reads no_branch i b h e = cc
 nth_reads (branch d c) zero b h e = let z : d ≡ b = cc in subst (λ y. some_parts (core y) ≡ true) z h.0
 nth_reads (branch d c) (suc i) b h e = nth_reads c i b h.2 e
 
-pub split_some : (a : Advert) (path : List PathStep) (c : Contract) (i : ℕ) (b : term.Guarded) (ps : Parts) → IsWellFormed a → contract_under a.root path ≡ Some c → slice_get (branches c) i ≡ Some b → core b ≡ split ps → 0 < length (parts_list ps)
+pub split_some : (a : Advert) (path : List PathStep) (c : Contract) (i : ℕ) (b : term.Guarded) (ps : Parts) → IsWellFormed a
+    → contract_under a.root path ≡ Some c → slice_get (branches c) i ≡ Some b → core b ≡ split ps → 0 < length (parts_list ps)
 split_some a path c i b ps well e t k =
     let r = and_parts _ _ well.readable in
     let r2 = and_parts _ (is_readable_contract a.root) r.1 in

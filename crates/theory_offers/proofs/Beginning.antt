@@ -19,7 +19,7 @@ use Rattle.spec_data.specs.Messages.{collision}
 use Rattle.spec_run.specs.World.{ContractPosition, World, live_position_at}
 use Rattle.spec_run.specs.Compiled.{compiled_instance}
 use Rattle.spec_run.specs.Conditions.{IsSetup, IsEvent, IsGift}
-use Rattle.spec_run.specs.Draft.{Draft, unless}
+use Rattle.spec_run.specs.Pending.{Pending, unless}
 use Rattle.spec_run.specs.Signing.{with_pairs, endorse_row, init_row, authorise_row, sign_row}
 use Rattle.spec_run.specs.Advertising.{advertise_row}
 use Rattle.spec_run.specs.Committing.{committed_strings, commit_row, digest_row}
@@ -28,7 +28,7 @@ use Rattle.spec_run.specs.Giving.{give_row, given_pairs, gift}
 use Rattle.spec_run.specs.Firing.{initial_by, taking_of_position, reaches_if, fire_init_row, fire_row}
 use Rattle.spec_run.specs.Ledger.{verdict_in, accepted, judged, reaches, initial_of, first_position, kind_by, begun_after}
 use Rattle.spec_run.specs.HonestDeposits.{gives}
-use Rattle.spec_run.specs.Event.{append_read, mine_row, draft}
+use Rattle.spec_run.specs.Event.{append_read, mine_row, pending}
 use Rattle.theory_world.proofs.Bookless.{initial_same}
 use Rattle.theory_run.proofs.Accepted.WhatItIs.{initial_is}
 use Rattle.theory_run.specs.KeptRuns.{KeptBooks}
@@ -54,7 +54,7 @@ module _ (s : Setup) (w : World) where
   same_begun : (next : World) → next.begun ≡ w.begun → BeginsReady s w next
   same_begun next e k h = inl (subst (λ ns. has_number k ns ≡ true) e h)
 
-  unless_begun : (r : Option Reason) (hashes : List (List ℕ)) (d : Draft) → BeginsReady s w d.world
+  unless_begun : (r : Option Reason) (hashes : List (List ℕ)) (d : Pending) → BeginsReady s w d.world
       → BeginsReady s w (unless r w hashes d).world
   unless_begun None hashes d h = h
   unless_begun (Some r) hashes d h = same_begun w refl
@@ -83,11 +83,11 @@ module _ (s : Setup) (w : World) where
 module _ (s : Setup) (setup : IsSetup s) (z : List (List ℕ)) (before : List Record) (g : Configuration) (w : World)
     (books : KeptBooks s g w) (leave : KeptLeave s before g w) (starts : KeptStarts s before w) (more : KeptOffers s g w) where
   module _ (e : Event) (is : IsEvent s e) (no_gift : (a : List ℕ) (n : ℕ) → gives a n e ≡ false) where
-    reaches_begun : (tx : Tx) → draft s w e ≡ reaches s w w tx → collision s.hash w.hashed (reaches s w w tx).hashes ≡ None
+    reaches_begun : (tx : Tx) → pending s w e ≡ reaches s w w tx → collision s.hash w.hashed (reaches s w w tx).hashes ≡ None
         → BeginsReady s w (reaches s w w tx).world
     reaches_begun tx same calm = by_verdict (verdict_in s w tx) refl same calm
       where
-        by_verdict : (v : Verdict) → verdict_in s w tx ≡ v → draft s w e ≡ judged s w w tx v
+        by_verdict : (v : Verdict) → verdict_in s w tx ≡ v → pending s w e ≡ judged s w w tx v
             → collision s.hash w.hashed (judged s w w tx v).hashes ≡ None → BeginsReady s w (judged s w w tx v).world
         by_verdict (verdicts.Refused r) h d c = same_begun s w w refl
         by_verdict (verdicts.Accepted spent made) h d c = accepted_begun s w [] tx spent (λ k i.
@@ -96,24 +96,24 @@ module _ (s : Setup) (setup : IsSetup s) (z : List (List ℕ)) (before : List Re
             begins_ready s setup z before g w books leave starts more e is no_gift tx spent made h d c k it.instance i it.compiled in
             record { instance = it.instance; compiled = it.compiled; endorsed = ends })
 
-    if_begun : (o : Option Tx) → draft s w e ≡ reaches_if s w o → collision s.hash w.hashed (reaches_if s w o).hashes ≡ None
+    if_begun : (o : Option Tx) → pending s w e ≡ reaches_if s w o → collision s.hash w.hashed (reaches_if s w o).hashes ≡ None
         → BeginsReady s w (reaches_if s w o).world
     if_begun None same calm = same_begun s w w refl
     if_begun (Some tx) same calm = reaches_begun tx same calm
 
-    read_begun : (r : Result Tx ℕ) → draft s w e ≡ append_read s w r → collision s.hash w.hashed (append_read s w r).hashes ≡ None
+    read_begun : (r : Result Tx ℕ) → pending s w e ≡ append_read s w r → collision s.hash w.hashed (append_read s w r).hashes ≡ None
         → BeginsReady s w (append_read s w r).world
     read_begun (Ok tx) same calm = reaches_begun tx same calm
     read_begun (Err place) same calm = same_begun s w w refl
 
-    fired_begun : (o : Option Tx) (r : Option Reason) → draft s w e ≡ unless r w [] (reaches_if s w o)
+    fired_begun : (o : Option Tx) (r : Option Reason) → pending s w e ≡ unless r w [] (reaches_if s w o)
         → collision s.hash w.hashed (unless r w [] (reaches_if s w o)).hashes ≡ None
         → BeginsReady s w (unless r w [] (reaches_if s w o)).world
     fired_begun o None same calm = if_begun o same calm
     fired_begun o (Some r) same calm = same_begun s w w refl
 
   give_begun : (party : List ℕ) (inputs : List ℕ) (outputs : List (List ℕ × ℕ)) → IsGift s party inputs outputs
-      → BeginsReady s w (draft s w (events.Give party inputs outputs)).world
+      → BeginsReady s w (pending s w (events.Give party inputs outputs)).world
   give_begun party inputs outputs is =
       unless_begun s w (first_reason (give_row s w party inputs outputs)) [] _ (by_verdict (verdict_in s (with_pairs w pairs) tx))
     where
@@ -131,8 +131,8 @@ module _ (s : Setup) (setup : IsSetup s) (z : List (List ℕ)) (before : List Re
           sym none ∙ sym (initial_same s w (with_pairs w pairs).book w.hashed tx 0 s.contracts) ∙ i in
           cc)
 
-  pub begun_after_event : (e : Event) → IsEvent s e → collision s.hash w.hashed (draft s w e).hashes ≡ None
-      → BeginsReady s w (draft s w e).world
+  pub begun_after_event : (e : Event) → IsEvent s e → collision s.hash w.hashed (pending s w e).hashes ≡ None
+      → BeginsReady s w (pending s w e).world
   begun_after_event (events.Advertise k bs) is calm = unless_begun s w (first_reason (advertise_row s w k bs)) [] _ (λ c h. inl h)
   begun_after_event (events.Commit k a ds) is calm =
       unless_begun s w (first_reason (commit_row s w k a ds)) [] _

@@ -9,8 +9,8 @@ use Rattle.spec_run.specs.declared.outcome.Record.{Record}
 use Rattle.spec_run.specs.Setup.{Setup}
 use Rattle.spec_run.specs.World.{World}
 use Rattle.spec_run.specs.Conditions.{IsSetup}
-use Rattle.spec_run.specs.Draft.{settled}
-use Rattle.spec_run.specs.Event.{draft, opening_world}
+use Rattle.spec_run.specs.Pending.{applied}
+use Rattle.spec_run.specs.Event.{pending, opening_world}
 use Rattle.spec_run.specs.Translation.{opening_configuration, last_world}
 use Rattle.theory_run.proofs.Following.{Keeps, run_posts, holds_throughout, kept_at_end}
 use Rattle.theory_run.proofs.Facts.Growing.{Grows, grows}
@@ -31,8 +31,8 @@ keeps_begun : (s : Setup) → IsSetup s → (z : List (List ℕ)) → Keeps s (s
 keeps_begun s setup z = record {
   step = λ before g w e k is calm unguessed begins.
       let books = k.all.honest.run.books in
-      let next = settled w (draft s w e) in
-      let new : BeginsReady s w (draft s w e).world =
+      let next = applied w (pending s w e) in
+      let new : BeginsReady s w (pending s w e).world =
       begun_after_event s setup z before g w books k.all.honest.leave k.all.starts k.all.more e is calm in
       let later : Grows s w next = grows s g w books.book e in
       let before_it : (c : ℕ) → has_number c next.begun ≡ true → (has_number c w.begun || is_endorsed_at s w c) ≡ true =

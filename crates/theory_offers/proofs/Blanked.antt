@@ -156,17 +156,17 @@ module _ (g : Configuration) (cs : List Committed)
       λ i. (x, e i) ∷ ih i
 
   -- the predicate counts only where the secrets are revealed
-  put_same : (front : List Bool) (k : ℕ) (pre : List Pre) (names : List (List ℕ)) (test : Pred)
-      → first_false 1 (front ++ are_revealed g.revealed k pre names ∷ holds (secret_lengths g.committed k pre names) test ∷ [])
-      ≡ first_false 1 (front ++ are_revealed g.revealed k pre names ∷ holds (secret_lengths cs k pre names) test ∷ [])
-  put_same front k pre names test = by_test (are_revealed g.revealed k pre names) refl
+  put_same : (prefix : List Bool) (k : ℕ) (pre : List Pre) (names : List (List ℕ)) (test : Pred)
+      → first_false 1 (prefix ++ are_revealed g.revealed k pre names ∷ holds (secret_lengths g.committed k pre names) test ∷ [])
+      ≡ first_false 1 (prefix ++ are_revealed g.revealed k pre names ∷ holds (secret_lengths cs k pre names) test ∷ [])
+  put_same prefix k pre names test = by_test (are_revealed g.revealed k pre names) refl
     where
       by_test : (b : Bool) → are_revealed g.revealed k pre names ≡ b
-          → first_false 1 (front ++ b ∷ holds (secret_lengths g.committed k pre names) test ∷ [])
-          ≡ first_false 1 (front ++ b ∷ holds (secret_lengths cs k pre names) test ∷ [])
-      by_test true h = ap (λ ls. first_false 1 (front ++ true ∷ holds ls test ∷ [])) (lengths_same k pre names h)
+          → first_false 1 (prefix ++ b ∷ holds (secret_lengths g.committed k pre names) test ∷ [])
+          ≡ first_false 1 (prefix ++ b ∷ holds (secret_lengths cs k pre names) test ∷ [])
+      by_test true h = ap (λ ls. first_false 1 (prefix ++ true ∷ holds ls test ∷ [])) (lengths_same k pre names h)
       by_test false h =
-          fails_before 1 front (holds (secret_lengths g.committed k pre names) test ∷ []) (holds (secret_lengths cs k pre names) test ∷ [])
+          fails_before 1 prefix (holds (secret_lengths g.committed k pre names) test ∷ []) (holds (secret_lengths cs k pre names) test ∷ [])
 
   committed_same : (k : ℕ) (people : List (List ℕ)) → have_committed g.committed k people ≡ have_committed cs k people
   committed_same k people = all_alike (λ p. has_committed g.committed k p) (λ p. has_committed cs k p) people (who k)
@@ -187,14 +187,14 @@ module _ (g : Configuration) (cs : List Committed)
       fails_same (steps.PutReveal n i) h =
           let a = active_at g.active n in
           let b = branch_at g n i in
-          let front : List Bool =
+          let prefix : List Bool =
           is_some a
           ∷ is_put b
           ∷ nat_le (lock_of b) g.time
           ∷ have_branch_authorised g.branch_authorised n i (asks_of b)
           ∷ are_there g.deposits (bindings_of g.advertised (contract_number a)) (puts_of_taken b)
           ∷ [] in
-          put_same front (contract_number a) (pre_of (advert_of g.contracts a)) (reveals_of_taken b) (test_of_taken b)
+          put_same prefix (contract_number a) (pre_of (advert_of g.contracts a)) (reveals_of_taken b) (test_of_taken b)
       fails_same (steps.Withdraw n i) h = refl
       fails_same (steps.Split n i) h = refl
 

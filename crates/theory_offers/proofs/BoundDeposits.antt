@@ -33,7 +33,7 @@ module _ (s : Setup) (w : World) (before : List Record) (party : List ℕ) (numb
   another : (p : Option Instance → Bool) → p None ≡ false → (other : ℕ) → p (compiled_instance s w other) ≡ true → other ≡ contract → ⊥
   another p none other h e =
       let there : p None ≡ true = ap p (sym uncompiled) ∙ ap (λ (k : ℕ). p (compiled_instance s w k)) (sym e) ∙ h in
-      let clash : false ≡ true = sym none ∙ there in
+      let collision_with : false ≡ true = sym none ∙ there in
       cc
 
   by_kind : (tx : Tx) (kind : Kind) → by_contract s w before party number tx kind ≡ true

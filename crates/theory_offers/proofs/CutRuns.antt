@@ -58,7 +58,7 @@ module _ (s : Setup) (y z : List (List ℕ)) (g : Configuration) (cs : List Comm
 pub turn_same : (s : Setup) (y z : List (List ℕ)) (g h : Configuration) (w : World) (p : Passed) → blank g ≡ blank h
     → blank (turn_of s y g w p).configuration ≡ blank (turn_of s z h w p).configuration
 turn_same s y z g h w p e =
-    let same : map unmeasured (steps_of s y g w p.world p.event p.draft) ≡ map unmeasured (steps_of s z h w p.world p.event p.draft) =
-    outcome_same s y z g h.committed w p.world p.event p.draft.tx p.draft.outcome
-    ∙ ap (λ c. map unmeasured (steps_of s z c w p.world p.event p.draft)) (fill g h e) in
-    after-measured (steps_of s y g w p.world p.event p.draft) (steps_of s z h w p.world p.event p.draft) g h same e
+    let same : map unmeasured (steps_of s y g w p.world p.event p.pending) ≡ map unmeasured (steps_of s z h w p.world p.event p.pending) =
+    outcome_same s y z g h.committed w p.world p.event p.pending.tx p.pending.outcome
+    ∙ ap (λ c. map unmeasured (steps_of s z c w p.world p.event p.pending)) (fill g h e) in
+    after-measured (steps_of s y g w p.world p.event p.pending) (steps_of s z h w p.world p.event p.pending) g h same e

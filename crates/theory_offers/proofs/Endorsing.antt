@@ -15,9 +15,9 @@ use Rattle.spec_run.specs.declared.outcome.Record.{Record}
 use Rattle.spec_run.specs.Setup.{Setup, is_honest}
 use Rattle.spec_run.specs.World.{World}
 use Rattle.spec_run.specs.Compiled.{compiled_instance}
-use Rattle.spec_run.specs.Draft.{done, unless, settled}
-use Rattle.spec_run.specs.Signing.{with_pairs, initial_pairs, missing_need, init_row, init_draft}
-use Rattle.spec_run.specs.Event.{draft, record_of}
+use Rattle.spec_run.specs.Pending.{done, unless, applied}
+use Rattle.spec_run.specs.Signing.{with_pairs, initial_pairs, missing_need, init_row, init_pending}
+use Rattle.spec_run.specs.Event.{pending, record_of}
 use Rattle.spec_run.specs.Values.{is_done}
 use Rattle.spec_run.specs.HonestDeposits.{is_init, was_done}
 use Rattle.theory_calculus.proofs.Names.{bytes-true}
@@ -40,10 +40,16 @@ pub opening_starts : (s : Setup) (w : World) → KeptStarts s [] w
 opening_starts s w = record { started = λ k a h d. cc }
 
 pub ready_later : (s : Setup) (w next : World) → Grows s w next → (k : ℕ) → IsReady s w k → IsReady s next k
-ready_later s w next grows k r = record { instance = r.instance; compiled = grows.compiled k r.instance r.compiled; endorsed = endorsed_later s.hash r.instance w.book next.book grows.book r.endorsed }
+ready_later s w next grows k r =
+    record {
+      instance = r.instance;
+      compiled = grows.compiled k r.instance r.compiled;
+      endorsed = endorsed_later s.hash r.instance w.book
+          next.book grows.book r.endorsed;
+    }
 
 -- what an honest party's start has seen
-ready_now : (s : Setup) (w : World) (k : ℕ) (a : List ℕ) → is_honest s a ≡ true → is_done (init_draft s w k a).outcome ≡ true → IsReady s w k
+ready_now : (s : Setup) (w : World) (k : ℕ) (a : List ℕ) → is_honest s a ≡ true → is_done (init_pending s w k a).outcome ≡ true → IsReady s w k
 ready_now s w k a honest d = by_reason (first_reason (init_row s w k a)) refl d
   where
     none_missed : (b : Bool) (o : Option Need) → b ≡ true → is_some (if b then o else None) ≡ false → o ≡ None
@@ -55,27 +61,29 @@ ready_now s w k a honest d = by_reason (first_reason (init_row s w k a)) refl d
     by_compiled None c h m = cc
     by_compiled (Some st) c h m = record { instance = st; compiled = c; endorsed = endorsed_from s w st m }
 
-    by_reason : (r : Option Reason) → first_reason (init_row s w k a) ≡ r → is_done (unless r w [] (done (with_pairs w (initial_pairs s a (compiled_instance s w k))) [])).outcome ≡ true → IsReady s w k
+    by_reason : (r : Option Reason) → first_reason (init_row s w k a) ≡ r
+        → is_done (unless r w [] (done (with_pairs w (initial_pairs s a (compiled_instance s w k))) [])).outcome ≡ true → IsReady s w k
     by_reason (Some r) e h = cc
     by_reason None e h =
         let row = no_reason-none_true (init_row s w k a) e in
-        by_compiled (compiled_instance s w k) refl (not-false _ row.1.1.0) (none_missed (is_honest s a) (missing_need s w (compiled_instance s w k)) honest row.1.1.1.0)
+        by_compiled (compiled_instance s w k) refl (not-false _ row.1.1.0)
+        (none_missed (is_honest s a) (missing_need s w (compiled_instance s w k)) honest row.1.1.1.0)
 
 module _ (s : Setup) (before : List Record) (w : World) (kept : KeptStarts s before w) where
-  pub starts_after : (e : Event) → Grows s w (settled w (draft s w e)) → KeptStarts s (before ++ record_of e (draft s w e) ∷ []) (settled w (draft s w e))
+  pub starts_after : (e : Event) → Grows s w (applied w (pending s w e)) → KeptStarts s (before ++ record_of e (pending s w e) ∷ []) (applied w (pending s w e))
   starts_after e grows = record {
     started = λ k a honest h.
         let test = λ (r : Record). is_done r.outcome && is_init k a r.event in
-        elim (or_cases (list_any test before) (list_any test (record_of e (draft s w e) ∷ [])) (sym (any-append test before (record_of e (draft s w e) ∷ [])) ∙ h)) [
-          | inl x ↦ ready_later s w (settled w (draft s w e)) grows k (kept.started k a honest x)
-          | inr y ↦ elim (or_cases (is_done (draft s w e).outcome && is_init k a e) false y) [
-            | inl u ↦ (let p = and_parts (is_done (draft s w e).outcome) (is_init k a e) u in ready_later s w (settled w (draft s w e)) grows k (new k a honest e p.0 p.1))
+        elim (or_cases (list_any test before) (list_any test (record_of e (pending s w e) ∷ [])) (sym (any-append test before (record_of e (pending s w e) ∷ [])) ∙ h)) [
+          | inl x ↦ ready_later s w (applied w (pending s w e)) grows k (kept.started k a honest x)
+          | inr y ↦ elim (or_cases (is_done (pending s w e).outcome && is_init k a e) false y) [
+            | inl u ↦ (let p = and_parts (is_done (pending s w e).outcome) (is_init k a e) u in ready_later s w (applied w (pending s w e)) grows k (new k a honest e p.0 p.1))
             | inr v ↦ cc
           ]
         ];
   }
     where
-      new : (k : ℕ) (a : List ℕ) → is_honest s a ≡ true → (e : Event) → is_done (draft s w e).outcome ≡ true → is_init k a e ≡ true → IsReady s w k
+      new : (k : ℕ) (a : List ℕ) → is_honest s a ≡ true → (e : Event) → is_done (pending s w e).outcome ≡ true → is_init k a e ≡ true → IsReady s w k
       new k a honest (events.Init j b) d i =
           let p = and_parts (j == k) (bytes_eq b a) i in
           let r = ready_now s w j b (subst (λ x. is_honest s x ≡ true) (sym (bytes-true b a p.1)) honest) d in

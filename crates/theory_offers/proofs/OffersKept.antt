@@ -57,7 +57,8 @@ module _ (s : Setup) (setup : IsSetup s) (z : List (List ℕ)) (g : Configuratio
   only x y (inl e) h = subst (IsKept s g w) (sym e) h
   only x y (inr i) h = absurd i
 
-  even : (n i : ℕ) (a : Active s setup g w agree kept check more n) (b : term.Guarded) (ps : Parts) → slice_get (branches (fine s setup g w agree kept check more n i a).choice) i ≡ Some b → core b ≡ split ps
+  even : (n i : ℕ) (a : Active s setup g w agree kept check more n) (b : term.Guarded) (ps : Parts)
+      → slice_get (branches (fine s setup g w agree kept check more n i a).choice) i ≡ Some b → core b ≡ split ps
       → (0 < length (parts_list ps)) × (sum_of_parts ps ≤ (fine s setup g w agree kept check more n i a).here.output.value)
   even n i a b ps t c =
       let f = fine s setup g w agree kept check more n i a in
@@ -67,10 +68,14 @@ module _ (s : Setup) (setup : IsSetup s) (z : List (List ℕ)) (g : Configuratio
       )
 
   step_kept : (x : Step) (o : Offer) → fails g x ≡ 0 → Is_in o (offers_of x) → IsKept s g w o
-  step_kept (steps.Init k) o h i = only (record { step = steps.Init k; event = events.FireInit k }) o i (init_kept s setup z g w agree kept check secrets more k h)
-  step_kept (steps.PutReveal n j) o h i = only (record { step = steps.PutReveal n j; event = events.Fire n j }) o i (put_kept s setup z g w agree kept check secrets begins more n j h)
-  step_kept (steps.Withdraw n j) o h i = only (record { step = steps.Withdraw n j; event = events.Fire n j }) o i (withdraw_kept s setup g w agree kept check more n j h)
-  step_kept (steps.Split n j) o h i = only (record { step = steps.Split n j; event = events.Fire n j }) o i (split_kept s setup g w agree kept check more n j h (even n j))
+  step_kept (steps.Init k) o h i =
+      only (record { step = steps.Init k; event = events.FireInit k }) o i (init_kept s setup z g w agree kept check secrets more k h)
+  step_kept (steps.PutReveal n j) o h i =
+      only (record { step = steps.PutReveal n j; event = events.Fire n j }) o i (put_kept s setup z g w agree kept check secrets begins more n j h)
+  step_kept (steps.Withdraw n j) o h i =
+      only (record { step = steps.Withdraw n j; event = events.Fire n j }) o i (withdraw_kept s setup g w agree kept check more n j h)
+  step_kept (steps.Split n j) o h i =
+      only (record { step = steps.Split n j; event = events.Fire n j }) o i (split_kept s setup g w agree kept check more n j h (even n j))
   step_kept (steps.Delay blocks) o h i = absurd i
   step_kept (steps.AuthMove party action) o h i = absurd i
   step_kept (steps.Move action) o h i = absurd i

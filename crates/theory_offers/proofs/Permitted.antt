@@ -45,12 +45,15 @@ use Rattle.theory_offers.proofs.Takings.{MayTake}
 use Rattle.theory_offers.proofs.TakingLeads.{takes_kept}
 
 -- the parts of a split are worth their sum
-parts_total : (hash : List ℕ → List ℕ) (st : Instance) (path : List PathStep) (k : ℕ) (ps : Parts) → bitcoin.total_of (part_outputs hash st path k ps) ≡ sum_of_parts ps
+parts_total : (hash : List ℕ → List ℕ) (st : Instance) (path : List PathStep) (k : ℕ) (ps : Parts)
+    → bitcoin.total_of (part_outputs hash st path k ps) ≡ sum_of_parts ps
 parts_total hash st path k no_part = refl
 parts_total hash st path k (part v c ps) =
-    sum_by-cons (λ (x : TxOut). x.value) (pays hash (position_script hash st (part_position path k) c) v) (part_outputs hash st path (k + 1) ps) ∙ ap (λ n. v + n) (parts_total hash st path (k + 1) ps)
+    sum_by-cons (λ (x : TxOut). x.value) (pays hash (position_script hash st (part_position path k) c) v)
+    (part_outputs hash st path (k + 1) ps) ∙ ap (λ n. v + n) (parts_total hash st path (k + 1) ps)
 
-some_part : (hash : List ℕ → List ℕ) (st : Instance) (path : List PathStep) (ps : Parts) → 0 < length (parts_list ps) → 0 < length (part_outputs hash st path 0 ps)
+some_part : (hash : List ℕ → List ℕ) (st : Instance) (path : List PathStep) (ps : Parts) → 0 < length (parts_list ps)
+    → 0 < length (part_outputs hash st path 0 ps)
 some_part hash st path no_part h = absurd (omega (arith, h))
 some_part hash st path (part v c ps) h = omega arith
 
@@ -70,15 +73,19 @@ module _ (s : Setup) (setup : IsSetup s) (g : Configuration) (w : World) (agree 
       look : active_at g.active n ≡ option_and_then (active_in n) (slice_get w.outputs n)
       look = ap (λ xs. active_at xs n) agree.active ∙ active-at n w.outputs
 
-      by_held : (o : Output) → slice_get w.outputs n ≡ Some o → o.live ≡ true → (h : Option ContractPosition) → o.holds ≡ h → is_some (active_by n o.value h) ≡ true → active_at g.active n ≡ active_by n o.value h → Active n
+      by_held : (o : Output) → slice_get w.outputs n ≡ Some o → o.live ≡ true → (h : Option ContractPosition) → o.holds ≡ h
+          → is_some (active_by n o.value h) ≡ true → active_at g.active n ≡ active_by n o.value h → Active n
       by_held o e l None q x y = cc
       by_held o e l (Some held) q x y = record { output = o; there = e; live = l; held = held; holds_it = q; seen = y }
 
-      by_live : (o : Output) → slice_get w.outputs n ≡ Some o → (b : Bool) → o.live ≡ b → is_some (active_by n o.value (if b then o.holds else None)) ≡ true → active_at g.active n ≡ active_by n o.value (if b then o.holds else None) → Active n
+      by_live : (o : Output) → slice_get w.outputs n ≡ Some o → (b : Bool) → o.live ≡ b
+          → is_some (active_by n o.value (if b then o.holds else None)) ≡ true → active_at g.active n
+          ≡ active_by n o.value (if b then o.holds else None) → Active n
       by_live o e false l x y = cc
       by_live o e true l x y = by_held o e l o.holds refl x y
 
-      by_output : (r : Option Output) → slice_get w.outputs n ≡ r → is_some (option_and_then (active_in n) r) ≡ true → active_at g.active n ≡ option_and_then (active_in n) (slice_get w.outputs n) → Active n
+      by_output : (r : Option Output) → slice_get w.outputs n ≡ r → is_some (option_and_then (active_in n) r) ≡ true → active_at g.active n
+          ≡ option_and_then (active_in n) (slice_get w.outputs n) → Active n
       by_output None e x y = cc
       by_output (Some o) e x y = by_live o e o.live refl x (y ∙ ap (option_and_then (active_in n)) e)
 
@@ -101,7 +108,8 @@ module _ (s : Setup) (setup : IsSetup s) (g : Configuration) (w : World) (agree 
       pub reached : lock b ≤ w.tip
       pub agreed : (p : List ℕ) → is_asked b p ≡ true → has_branch_authorised g.branch_authorised n i p ≡ true
 
-    pub permitted : (b : term.Guarded) → branch_at g n i ≡ Some b → nat_le (lock b) g.time ≡ true → list_all (λ p. has_branch_authorised g.branch_authorised n i p) (asks b) ≡ true → Permitted b
+    pub permitted : (b : term.Guarded) → branch_at g n i ≡ Some b → nat_le (lock b) g.time ≡ true
+        → list_all (λ p. has_branch_authorised g.branch_authorised n i p) (asks b) ≡ true → Permitted b
     permitted b e l h = record {
       is_branch = sym branch_seen ∙ e;
       reached = subst (λ t. lock b ≤ t) agree.time (within_of_test (lock b) g.time l);
@@ -110,7 +118,8 @@ module _ (s : Setup) (setup : IsSetup s) (g : Configuration) (w : World) (agree 
 
     -- a branch that puts nothing and reveals nothing
     pub quiet_take : (b : term.Guarded) → Permitted b → puts_of (core b) ≡ [] → reveals_of (core b) ≡ [] → test_of (core b) ≡ always
-        → 0 < length (branch_unsigned s.hash fine.instance fine.here i b).outputs → bitcoin.total_of (branch_unsigned s.hash fine.instance fine.here i b).outputs ≤ fine.here.output.value → MayTake s g w n i
+        → 0 < length (branch_unsigned s.hash fine.instance fine.here i b).outputs
+        → bitcoin.total_of (branch_unsigned s.hash fine.instance fine.here i b).outputs ≤ fine.here.output.value → MayTake s g w n i
     quiet_take b p pe re te makes enough = record {
       output = a.output;
       there = a.there;
@@ -132,7 +141,8 @@ module _ (s : Setup) (setup : IsSetup s) (g : Configuration) (w : World) (agree 
       enough = omega (arith, enough);
     }
 
-    withdraw_take : (b : term.Guarded) → Permitted b → (c : term.Guarded) → core b ≡ c → is_withdraw_core c ≡ true → IsKept s g w (record { step = steps.Withdraw n i; event = events.Fire n i })
+    withdraw_take : (b : term.Guarded) → Permitted b → (c : term.Guarded) → core b ≡ c → is_withdraw_core c ≡ true
+        → IsKept s g w (record { step = steps.Withdraw n i; event = events.Fire n i })
     unfolding quiet_take
     withdraw_take b p (put_reveal puts reveals test next) e h = cc
     withdraw_take b p (split parts) e h = cc
@@ -147,7 +157,9 @@ module _ (s : Setup) (setup : IsSetup s) (g : Configuration) (w : World) (agree 
         (quiet_take b p (ap puts_of e) (ap reveals_of e) (ap test_of e) (omega (arith, l)) (omega (arith, t)))
         (steps.Withdraw n i) (ap (core_step n i) e)
 
-    split_take : (b : term.Guarded) → Permitted b → (c : term.Guarded) → core b ≡ c → is_split_core c ≡ true → ((ps : Parts) → core b ≡ split ps → (0 < length (parts_list ps)) × (sum_of_parts ps ≤ fine.here.output.value)) → IsKept s g w (record { step = steps.Split n i; event = events.Fire n i })
+    split_take : (b : term.Guarded) → Permitted b → (c : term.Guarded) → core b ≡ c → is_split_core c ≡ true
+        → ((ps : Parts) → core b ≡ split ps → (0 < length (parts_list ps)) × (sum_of_parts ps ≤ fine.here.output.value))
+        → IsKept s g w (record { step = steps.Split n i; event = events.Fire n i })
     unfolding quiet_take
     split_take b p (put_reveal puts reveals test next) e h k = cc
     split_take b p (withdraw party) e h k = cc
@@ -165,7 +177,8 @@ module _ (s : Setup) (setup : IsSetup s) (g : Configuration) (w : World) (agree 
         (quiet_take b p (ap puts_of e) (ap reveals_of e) (ap test_of e) (omega (arith, l, f)) (omega (arith, t, u)))
         (steps.Split n i) (ap (core_step n i) e)
 
-  withdraw_by : (n i : ℕ) (a : Active n) (o : Option term.Guarded) → branch_at g n i ≡ o → is_withdraw o ≡ true → nat_le (calculus.lock_of o) g.time ≡ true → calculus.have_branch_authorised g.branch_authorised n i (calculus.asks_of o) ≡ true
+  withdraw_by : (n i : ℕ) (a : Active n) (o : Option term.Guarded) → branch_at g n i ≡ o → is_withdraw o ≡ true
+      → nat_le (calculus.lock_of o) g.time ≡ true → calculus.have_branch_authorised g.branch_authorised n i (calculus.asks_of o) ≡ true
       → IsKept s g w (record { step = steps.Withdraw n i; event = events.Fire n i })
   withdraw_by n i a None e x l h = cc
   withdraw_by n i a (Some b) e x l h = withdraw_take n i a b (permitted n i a b e l h) (core b) refl x
@@ -176,8 +189,10 @@ module _ (s : Setup) (setup : IsSetup s) (g : Configuration) (w : World) (agree 
       let t = no_false 1 (withdraw_premises g n i (active_at g.active n) (branch_at g n i)) (omega arith) h in
       withdraw_by n i (is_active n t.0) (branch_at g n i) refl t.1.0 t.1.1.0 t.1.1.1.0
 
-  split_by : (n i : ℕ) (a : Active n) (o : Option term.Guarded) → branch_at g n i ≡ o → is_split o ≡ true → nat_le (calculus.lock_of o) g.time ≡ true → calculus.have_branch_authorised g.branch_authorised n i (calculus.asks_of o) ≡ true
-      → ((b : term.Guarded) (ps : Parts) → slice_get (branches (fine n i a).choice) i ≡ Some b → core b ≡ split ps → (0 < length (parts_list ps)) × (sum_of_parts ps ≤ (fine n i a).here.output.value))
+  split_by : (n i : ℕ) (a : Active n) (o : Option term.Guarded) → branch_at g n i ≡ o → is_split o ≡ true
+      → nat_le (calculus.lock_of o) g.time ≡ true → calculus.have_branch_authorised g.branch_authorised n i (calculus.asks_of o) ≡ true
+      → ((b : term.Guarded) (ps : Parts) → slice_get (branches (fine n i a).choice) i ≡ Some b → core b ≡ split ps
+      → (0 < length (parts_list ps)) × (sum_of_parts ps ≤ (fine n i a).here.output.value))
       → IsKept s g w (record { step = steps.Split n i; event = events.Fire n i })
   split_by n i a None e x l h k = cc
   split_by n i a (Some b) e x l h k =
@@ -186,7 +201,8 @@ module _ (s : Setup) (setup : IsSetup s) (g : Configuration) (w : World) (agree 
 
   -- an offered split is kept, where its parts are worth no more than its position
   pub split_kept : (n i : ℕ) → fails g (steps.Split n i) ≡ 0
-      → ((a : Active n) (b : term.Guarded) (ps : Parts) → slice_get (branches (fine n i a).choice) i ≡ Some b → core b ≡ split ps → (0 < length (parts_list ps)) × (sum_of_parts ps ≤ (fine n i a).here.output.value))
+      → ((a : Active n) (b : term.Guarded) (ps : Parts) → slice_get (branches (fine n i a).choice) i ≡ Some b → core b ≡ split ps
+      → (0 < length (parts_list ps)) × (sum_of_parts ps ≤ (fine n i a).here.output.value))
       → IsKept s g w (record { step = steps.Split n i; event = events.Fire n i })
   split_kept n i h k =
       let t = no_false 1 (split_premises g n i (active_at g.active n) (branch_at g n i)) (omega arith) h in

@@ -75,7 +75,8 @@ module _ (s : Setup) (setup : IsSetup s) (z : List (List ℕ)) (g : Configuratio
     there : contract_at s k ≡ Some st.advert
     there = let ci = compiled_is s w k st compiled in ci.there ∙ ap (λ (y : Instance). Some y.advert) (sym ci.is)
 
-    pub pre_is : pre_of (calculus.advert_of g.contracts (Some record { number = n; contract = a.held.contract; position = a.held.position; balance = a.output.value })) ≡ st.advert.pre
+    pub pre_is : pre_of (calculus.advert_of g.contracts
+        (Some record { number = n; contract = a.held.contract; position = a.held.position; balance = a.output.value })) ≡ st.advert.pre
     pre_is = ap (λ cs. pre_of (slice_get cs k)) more.constant.contracts ∙ ap pre_of there
 
     pub hashes : st.hashes ≡ digests_at w.promises k
@@ -84,13 +85,15 @@ module _ (s : Setup) (setup : IsSetup s) (z : List (List ℕ)) (g : Configuratio
     pub well : IsWellFormed st.advert
     well = check.checked k st compiled
 
-    pub own : (q : Promise) → Is_in q w.promises → q.contract ≡ k → (name : List ℕ) → is_some (look_up name q.digests) ≡ true → is_among name (secrets_of q.party st.advert.pre) ≡ true
+    pub own : (q : Promise) → Is_in q w.promises → q.contract ≡ k → (name : List ℕ) → is_some (look_up name q.digests) ≡ true
+        → is_among name (secrets_of q.party st.advert.pre) ≡ true
     own q j c name h =
         let l = more.named q name j h in
         let e : setups.pre_at s q.contract ≡ st.advert.pre = ap (setups.pre_at s) c ∙ ap setups.pre_of there in
         subst (λ pre. is_among name (secrets_of q.party pre) ≡ true) e l
 
-    pub opened : are_revealed g.revealed k st.advert.pre (reveals_of (core b)) ≡ true → Unlocked s z g w secrets begins st k hashes (different_names st.advert well) own (reveals_of (core b))
+    pub opened : are_revealed g.revealed k st.advert.pre (reveals_of (core b)) ≡ true
+        → Unlocked s z g w secrets begins st k hashes (different_names st.advert well) own (reveals_of (core b))
     opened h = unlocked s z g w secrets begins st k hashes (different_names st.advert well) own (reveals_of (core b)) h
 
     -- a put's or reveal's branch that may be taken
@@ -126,7 +129,9 @@ module _ (s : Setup) (setup : IsSetup s) (z : List (List ℕ)) (g : Configuratio
           is_branch = p.is_branch;
           reached = p.reached;
           agreed = p.agreed;
-          live_puts = λ name j. sym (there_is s setup z g w agree kept secrets more (look_up name (bindings_at w.advertised k))) ∙ subst (λ bs. is_there g.deposits (look_up name bs) ≡ true) same (all_in (λ x. is_there g.deposits (look_up x (bindings_of g.advertised k))) (puts_of (core b)) name live j);
+          live_puts = λ name j. sym (there_is s setup z g w agree kept secrets more (look_up name (bindings_at w.advertised k)))
+              ∙ subst (λ bs. is_there g.deposits (look_up name bs) ≡ true) same
+              (all_in (λ x. is_there g.deposits (look_up x (bindings_of g.advertised k))) (puts_of (core b)) name live j);
           known_puts = λ name j. entry_in st.advert.pre name (all_in (λ x. is_among x (names_of (volatile st.advert.pre))) (puts_of (core b)) name known j);
           different_puts = (and_parts (are_different (puts_of (core b))) (are_different (reveals_of (core b))) apart).0;
           shown = u.shown;
@@ -149,7 +154,9 @@ module _ (s : Setup) (setup : IsSetup s) (z : List (List ℕ)) (g : Configuratio
     put_core (after height body) e x l r h = cc
 
   put_by : (n i : ℕ) (a : Active s setup g w agree kept check more n) (o : Option term.Guarded) → branch_at g n i ≡ o
-      → AllTrue (put_reveal_premises g n i (Some record { number = n; contract = a.held.contract; position = a.held.position; balance = a.output.value }) o) → IsKept s g w (record { step = steps.PutReveal n i; event = events.Fire n i })
+      → AllTrue (put_reveal_premises g n i (Some
+      record { number = n; contract = a.held.contract; position = a.held.position; balance = a.output.value }) o)
+      → IsKept s g w (record { step = steps.PutReveal n i; event = events.Fire n i })
   put_by n i a None e t = let x = t.1.0 in cc
   put_by n i a (Some b) e t =
       let p = permitted s setup g w agree kept check more n i a b e t.1.1.0 t.1.1.1.0 in

@@ -84,7 +84,9 @@ module _ (s : Setup) (setup : IsSetup s) (z : List (List ℕ)) (g : Configuratio
     pub authorised : (d : List ℕ × Holding) → Is_in d (persistent advert.pre) → is_init_authorised g.init_authorised k (d.0) ≡ true
 
   pub may_begin : (k : ℕ) → fails g (steps.Init k) ≡ 0 → MayBegin k
-  may_begin k h = by_advert (contract_at s k) refl (subst (λ cs. AllTrue (init_premises g k (calculus.contract_at cs k))) more.constant.contracts (no_false 1 (init_premises g k (calculus.contract_at g.contracts k)) (omega arith) h))
+  may_begin k h = by_advert (contract_at s k) refl
+      (subst (λ cs. AllTrue (init_premises g k (calculus.contract_at cs k))) more.constant.contracts
+      (no_false 1 (init_premises g k (calculus.contract_at g.contracts k)) (omega arith) h))
     where
       by_advert : (o : Option Advert) → contract_at s k ≡ o → AllTrue (init_premises g k o) → MayBegin k
       by_advert None e t = let f = t.0 in cc
@@ -100,7 +102,9 @@ module _ (s : Setup) (setup : IsSetup s) (z : List (List ℕ)) (g : Configuratio
             there = e;
             well = well;
             compiled = compiled_from s w k a e adv p;
-            live = λ d i. sym (there_is (look_up (d.0) (bindings_at w.advertised k))) ∙ subst (λ bs. is_there g.deposits (look_up (d.0) bs) ≡ true) same (all_named (λ x. is_there g.deposits (look_up x (bindings_of g.advertised k))) (persistent a.pre) d t.1.0 i);
+            live = λ d i. sym (there_is (look_up (d.0) (bindings_at w.advertised k)))
+                ∙ subst (λ bs. is_there g.deposits (look_up (d.0) bs) ≡ true) same
+                (all_named (λ x. is_there g.deposits (look_up x (bindings_of g.advertised k))) (persistent a.pre) d t.1.0 i);
             authorised = λ d i. all_named (λ x. is_init_authorised g.init_authorised k x) (persistent a.pre) d t.1.1.0 i;
           }
 
@@ -108,7 +112,8 @@ module _ (s : Setup) (setup : IsSetup s) (z : List (List ℕ)) (g : Configuratio
     abbrev pub numbers : List ℕ
     numbers = map (λ (d : List ℕ × Holding). number_of w k (d.0)) (persistent may.advert.pre)
 
-    pub start_asked : Asked s w setup.hash.size kept.apart (initial_unsigned s.hash (instance_of w k may.advert)) (initial_witnesses s (instance_of w k may.advert) (prepared s.hash (initial_unsigned s.hash (instance_of w k may.advert)))) numbers
+    pub start_asked : Asked s w setup.hash.size kept.apart (initial_unsigned s.hash (instance_of w k may.advert))
+        (initial_witnesses s (instance_of w k may.advert) (prepared s.hash (initial_unsigned s.hash (instance_of w k may.advert)))) numbers
     start_asked =
         let one = a_person may.advert may.well in
         let dep = has_deposit may.advert one.0 may.well one.1 in
@@ -118,8 +123,16 @@ module _ (s : Setup) (setup : IsSetup s) (z : List (List ℕ)) (g : Configuratio
         let some = in_some (dep.name, dep.holding) ds dep.there in
         let len = length_map (λ (d : List ℕ × Holding). deposit s.hash (instance_of w k may.advert) (d.0) (d.1)) ds in
         record {
-          ready = ready_all s setup.hash.size g w kept k (instance_of w k may.advert) may.compiled (tx_of (initial_unsigned s.hash (instance_of w k may.advert))) (λ d. d) ds (λ d i. record { known = persistent_deposit may.advert.pre d i; live = may.live d i; signed = more.inits k (instance_of w k may.advert) d may.compiled i (may.authorised d i) (may.live d i) });
-          distinct = numbers_apart s setup.hash.size g w kept k (instance_of w k may.advert) may.compiled (λ d. d) ds (λ d i. persistent_deposit may.advert.pre d i) (persistent_different may.advert.pre (different_names may.advert may.well));
+          ready = ready_all s setup.hash.size g w kept k (instance_of w k may.advert) may.compiled
+              (tx_of (initial_unsigned s.hash (instance_of w k may.advert))) (λ d. d) ds
+              (λ d i. record {
+                known = persistent_deposit may.advert.pre d i;
+                live = may.live d i;
+                signed = more.inits k
+                    (instance_of w k may.advert) d may.compiled i (may.authorised d i) (may.live d i);
+              });
+          distinct = numbers_apart s setup.hash.size g w kept k (instance_of w k may.advert) may.compiled (λ d. d) ds
+              (λ d i. persistent_deposit may.advert.pre d i) (persistent_different may.advert.pre (different_names may.advert may.well));
           some = omega (arith, some, len);
           makes = omega arith;
           enough = omega (arith, fresh, total);
@@ -128,5 +141,7 @@ module _ (s : Setup) (setup : IsSetup s) (z : List (List ℕ)) (g : Configuratio
           height = more.height;
         }
 
-    pub start_accepts : verdict_in s w (initial_transaction s (instance_of w k may.advert)) ≡ verdicts.Accepted numbers (bitcoin.numbers_from (length w.outputs) (initial_unsigned s.hash (instance_of w k may.advert)).outputs)
-    start_accepts = accepts s w setup.hash.size kept.apart (initial_unsigned s.hash (instance_of w k may.advert)) (initial_witnesses s (instance_of w k may.advert) (prepared s.hash (initial_unsigned s.hash (instance_of w k may.advert)))) numbers start_asked
+    pub start_accepts : verdict_in s w (initial_transaction s (instance_of w k may.advert))
+        ≡ verdicts.Accepted numbers (bitcoin.numbers_from (length w.outputs) (initial_unsigned s.hash (instance_of w k may.advert)).outputs)
+    start_accepts = accepts s w setup.hash.size kept.apart (initial_unsigned s.hash (instance_of w k may.advert))
+        (initial_witnesses s (instance_of w k may.advert) (prepared s.hash (initial_unsigned s.hash (instance_of w k may.advert)))) numbers start_asked

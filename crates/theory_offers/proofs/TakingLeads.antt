@@ -18,13 +18,13 @@ use Rattle.spec_run.specs.declared.event.Event.TheVariants as events
 use Rattle.spec_run.specs.Setup.{Setup, people_at}
 use Rattle.spec_run.specs.World.{Output, World, live_position_at}
 use Rattle.spec_run.specs.Conditions.{IsSetup}
-use Rattle.spec_run.specs.Draft.{unless, answer}
+use Rattle.spec_run.specs.Pending.{unless, answer}
 use Rattle.spec_run.specs.Signing.{branch_if_live}
 use Rattle.spec_run.specs.Firing.{taking_witnesses, fire_row, reaches_if, position_instance, unknown_secret, unknown_at, script_of_position}
 use Rattle.spec_run.specs.Ledger.{judged, accepted, kind_by, kind_of, Takes, initial_of, branch_count}
 use Rattle.spec_compiler.specs.Witness.{chosen_by}
 use Rattle.spec_run.specs.Steps.{reveals, kind_steps, branch_steps, auth_branch, is_awaited, core_step, steps_of}
-use Rattle.spec_run.specs.Event.{draft}
+use Rattle.spec_run.specs.Event.{pending}
 use Rattle.spec_run.specs.Statements.{IsLast, LeadsTo, IsKept}
 use Rattle.theory_bitcoin.specs.Apart.{bare_input, bare}
 use Rattle.theory_calculus.specs.Members.{Is_in}
@@ -42,7 +42,8 @@ use Rattle.theory_offers.proofs.Takings as taking
 use Rattle.theory_offers.proofs.Takings.{MayTake}
 
 -- the first of the persistent deposits
-first_persistent : (hash : List ℕ → List ℕ) (st : Instance) (ds : List (List ℕ × Holding)) (x : Spent) (xs : List Spent) → map bare_input (map input_of (x ∷ xs)) ≡ map bare_input (map input_of (map (λ (d : List ℕ × Holding). deposit hash st d.0 d.1) ds))
+first_persistent : (hash : List ℕ → List ℕ) (st : Instance) (ds : List (List ℕ × Holding)) (x : Spent) (xs : List Spent)
+    → map bare_input (map input_of (x ∷ xs)) ≡ map bare_input (map input_of (map (λ (d : List ℕ × Holding). deposit hash st d.0 d.1) ds))
     → (d : List ℕ × Holding) × Is_in d ds × (x.outpoint ≡ (deposit hash st d.0 d.1).outpoint)
 first_persistent hash st [] x xs h = cc
 first_persistent hash st (d ∷ ds) x xs h =
@@ -66,13 +67,14 @@ module _ (s : Setup) (setup : IsSetup s) (g : Configuration) (w : World) (kept :
       let u : unknown_at s w n i ≡ None = (λ j. unknown_secret s w (t j) (b j)) ∙ may.shown in
       none_reason (fire_row s w n i) (ap (λ o. not (is_some o)) held_is, (ap (λ o. not (is_some o)) b, (ap is_some u, tt)))
 
-  draft_is : draft s w (events.Fire n i) ≡ accepted s w tx (n ∷ ns)
-  draft_is =
+  pending_is : pending s w (events.Fire n i) ≡ accepted s w tx (n ∷ ns)
+  pending_is =
       let t = taking.taking_is s setup g w kept check more n i may in
       (λ j. unless (row j) w [] (reaches_if s w (t j))) ∙ ap (judged s w w tx) (taking.taking_accepts s setup g w kept check more n i may)
 
   tx_bare : bare tx ≡ bare (tx_of (taking.made s setup g w kept check more n i may))
-  tx_bare = with-bare (tx_of (taking.made s setup g w kept check more n i may)) (taking_witnesses s w may.fine.instance may.held i may.fine.choice may.branch (prepared s.hash (taking.made s setup g w kept check more n i may)))
+  tx_bare = with-bare (tx_of (taking.made s setup g w kept check more n i may))
+      (taking_witnesses s w may.fine.instance may.held i may.fine.choice may.branch (prepared s.hash (taking.made s setup g w kept check more n i may)))
 
   -- it is no initial transaction
   no_initial : initial_of s w tx ≡ None
@@ -106,7 +108,8 @@ module _ (s : Setup) (setup : IsSetup s) (g : Configuration) (w : World) (kept :
         let auths = map (auth_branch n i) (filter (is_awaited g n i may.branch) people) in
         let b = taking.branch_is s setup g w kept check more n i may in (
           reveals s w next ++ auths,
-          (λ j. reveals s w next ++ kind_steps s g w tx (n ∷ ns) (kind_is j)) ∙ (λ j. reveals s w next ++ branch_steps g people n i (b j)) ∙ (λ j. reveals s w next ++ (auths ++ step_is j)) ∙ sym (append_assoc (reveals s w next) auths (step ∷ [])),
+          (λ j. reveals s w next ++ kind_steps s g w tx (n ∷ ns) (kind_is j)) ∙ (λ j. reveals s w next ++ branch_steps g people n i (b j))
+              ∙ (λ j. reveals s w next ++ (auths ++ step_is j)) ∙ sym (append_assoc (reveals s w next) auths (step ∷ [])),
         )
 
     -- a branch that is offered is kept
@@ -117,5 +120,6 @@ module _ (s : Setup) (setup : IsSetup s) (g : Configuration) (w : World) (kept :
       made = bitcoin.numbers_from (length w.outputs) (taking.made s setup g w kept check more n i may).outputs;
       fires = taking.taking_is s setup g w kept check more n i may;
       accepts = taking.taking_accepts s setup g w kept check more n i may;
-      leads = subst (λ d. LeadsTo s g w (events.Fire n i) step (answer s w d)) (sym draft_is) (leads_by s g w (events.Fire n i) step (accepted s w tx (n ∷ ns)) last);
+      leads = subst (λ d. LeadsTo s g w (events.Fire n i) step (answer s w d)) (sym pending_is)
+          (leads_by s g w (events.Fire n i) step (accepted s w tx (n ∷ ns)) last);
     }

@@ -49,11 +49,15 @@ use Rattle.theory_offers.proofs.Basis.Offered.{KeptOffers, number_of, IsOpen, re
 use Rattle.theory_offers.proofs.AllSigned.{branch_met, put_met}
 
 -- signatures of a digest whose pairs stand in the book
-signed_each : (book : List Pair) (d : List ℕ) (f : List ℕ → List ℕ) (ps : List (List ℕ)) → ((a : List ℕ) → is_among a ps ≡ true → has_signed book (f a) d ≡ true) → are_valid (is_valid book d) (map (λ key. signature_of key d) (map f ps)) (map f ps) ≡ true
+signed_each : (book : List Pair) (d : List ℕ) (f : List ℕ → List ℕ) (ps : List (List ℕ))
+    → ((a : List ℕ) → is_among a ps ≡ true → has_signed book (f a) d ≡ true)
+    → are_valid (is_valid book d) (map (λ key. signature_of key d) (map f ps)) (map f ps) ≡ true
 signed_each book d f [] h = refl
-signed_each book d f (p ∷ ps) h = and_from _ _ (and_from _ _ (bytes_refl (signature_of (f p) d)) (h p (among_head p ps))) (signed_each book d f ps (λ a i. h a (among_tail a p ps i)))
+signed_each book d f (p ∷ ps) h =
+    and_from _ _ (and_from _ _ (bytes_refl (signature_of (f p) d)) (h p (among_head p ps))) (signed_each book d f ps (λ a i. h a (among_tail a p ps i)))
 
-short_each : (d : List ℕ) (f : List ℕ → List ℕ) (ps : List (List ℕ)) → length d ≡ 32 → ((a : List ℕ) → length (f a) ≡ 33) → list_all is_short (map (λ key. signature_of key d) (map f ps)) ≡ true
+short_each : (d : List ℕ) (f : List ℕ → List ℕ) (ps : List (List ℕ)) → length d ≡ 32 → ((a : List ℕ) → length (f a) ≡ 33)
+    → list_all is_short (map (λ key. signature_of key d) (map f ps)) ≡ true
 short_each d f [] l h = refl
 short_each d f (p ∷ ps) l h = and_from _ _ (signature_short (f p) d (h p) l) (short_each d f ps l h)
 
@@ -73,15 +77,18 @@ pub record MayTake (s : Setup) (g : Configuration) (w : World) (n i : ℕ) : Typ
   pub agreed : (a : List ℕ) → is_asked branch a ≡ true → has_branch_authorised g.branch_authorised n i a ≡ true
   -- deposits that it puts
   pub live_puts : (name : List ℕ) → Is_in name (puts_of (core branch)) → names_deposit w (look_up name (bindings_at w.advertised held.contract)) ≡ true
-  pub known_puts : (name : List ℕ) → Is_in name (puts_of (core branch)) → Is_in (name, holding_or_none (look_up name (volatile fine.instance.advert.pre))) (deposits fine.instance.advert.pre)
+  pub known_puts : (name : List ℕ) → Is_in name (puts_of (core branch))
+      → Is_in (name, holding_or_none (look_up name (volatile fine.instance.advert.pre))) (deposits fine.instance.advert.pre)
   pub different_puts : are_different (puts_of (core branch)) ≡ true
   -- secrets that it reveals
   pub shown : first_unshown s w fine.instance (reveals_of (core branch)) ≡ None
-  pub fits : are_secrets s.hash (shown_strings s w fine.instance (reveals_of (core branch))) (map (digest_of fine.instance.hashes) (reveals_of (core branch))) ≡ true
+  pub fits : are_secrets s.hash (shown_strings s w fine.instance (reveals_of (core branch)))
+      (map (digest_of fine.instance.hashes) (reveals_of (core branch))) ≡ true
   pub predicate : holds (secret_lengths (reveals_of (core branch)) (shown_strings s w fine.instance (reveals_of (core branch)))) (test_of (core branch)) ≡ true
   -- what it makes
   pub makes : 0 < length (branch_unsigned s.hash fine.instance fine.here i branch).outputs
-  pub enough : bitcoin.total_of (branch_unsigned s.hash fine.instance fine.here i branch).outputs ≤ worth (branch_unsigned s.hash fine.instance fine.here i branch).spends
+  pub enough : bitcoin.total_of (branch_unsigned s.hash fine.instance fine.here i branch).outputs ≤ worth
+      (branch_unsigned s.hash fine.instance fine.here i branch).spends
 
 module _ (s : Setup) (setup : IsSetup s) (g : Configuration) (w : World) (kept : KeptBook s g w) (check : Checked s w) (more : KeptOffers s g w) (n i : ℕ) (may : MayTake s g w n i) where
   abbrev pub held : ContractPosition
@@ -122,15 +129,22 @@ module _ (s : Setup) (setup : IsSetup s) (g : Configuration) (w : World) (kept :
   path_is = ap (λ p. p ++ To i ∷ []) (position_named s.hash st held.position here choice may.fine.stands)
 
   comp : IsCompiled st held.position choice
-  comp = record { checked = check.checked held.contract st may.fine.compiled; committed = check.committed held.contract st may.fine.compiled; is_position = term_choice s.hash st held.position here choice may.fine.stands }
+  comp = record {
+    checked = check.checked held.contract st may.fine.compiled;
+    committed = check.committed held.contract st
+        may.fine.compiled;
+    is_position = term_choice s.hash st held.position here choice may.fine.stands;
+  }
 
   -- each participant has signed
   all_signed : (a : List ℕ) → is_among a (people st) ≡ true → has_signed w.book (key_of s.hash (branch_label st.contract path a)) dg ≡ true
   all_signed a h = by_asked (is_asked b a) refl
     where
       by_asked : (t : Bool) → is_asked b a ≡ t → has_signed w.book (key_of s.hash (branch_label st.contract path a)) dg ≡ true
-      by_asked true e = subst (λ k. has_signed w.book (key_of s.hash (branch_label k path a)) dg ≡ true) (sym same_contract) (more.asked n i a held st here choice b held_is may.fine.compiled may.fine.stands may.is_branch e (may.agreed a e))
-      by_asked false e = subst (λ p. has_signed w.book (key_of s.hash (branch_label st.contract p a)) dg ≡ true) path_is (branch_met s.hash st w.book held.position here choice i b may.fine.stands may.is_branch (more.endorsed n held st held_is may.fine.compiled) a h e)
+      by_asked true e = subst (λ k. has_signed w.book (key_of s.hash (branch_label k path a)) dg ≡ true) (sym same_contract)
+          (more.asked n i a held st here choice b held_is may.fine.compiled may.fine.stands may.is_branch e (may.agreed a e))
+      by_asked false e = subst (λ p. has_signed w.book (key_of s.hash (branch_label st.contract p a)) dg ≡ true) path_is
+          (branch_met s.hash st w.book held.position here choice i b may.fine.stands may.is_branch (more.endorsed n held st held_is may.fine.compiled) a h e)
 
   abbrev pub sigs : List (List ℕ)
   sigs = branch_signatures s st path dg
@@ -145,7 +159,8 @@ module _ (s : Setup) (setup : IsSetup s) (g : Configuration) (w : World) (kept :
     fits = may.fits;
     predicate = may.predicate;
     signed = signed_each w.book dg (λ party. key_of s.hash (branch_label st.contract path party)) (people st) all_signed;
-    short = short_each dg (λ party. key_of s.hash (branch_label st.contract path party)) (people st) (digest_size s.hash setup.hash.size (tx_of made) here.output) (λ a. ap suc (setup.hash.size _));
+    short = short_each dg (λ party. key_of s.hash (branch_label st.contract path party)) (people st)
+        (digest_size s.hash setup.hash.size (tx_of made) here.output) (λ a. ap suc (setup.hash.size _));
   }
 
   script_is : here.output.script ≡ position_script s.hash st held.position choice
@@ -166,8 +181,10 @@ module _ (s : Setup) (setup : IsSetup s) (g : Configuration) (w : World) (kept :
         pays = may.fine.script;
         items = stack;
         is = ap (λ x. stack ++ x ∷ []) (sym script_is);
-        short = stack_short sigs strings i (length (branches choice)) fills.short (secrets_short s.hash strings (map (digest_of st.hashes) (reveals_of (core b))) may.fits);
-        runs = subst (λ x. script_meaning s.hash (is_valid w.book dg) x stack ≡ true) (sym script_is) (witness_opens s.hash (is_valid w.book dg) st held.position choice i sigs strings setup.hash.size comp fills);
+        short = stack_short sigs strings i (length (branches choice)) fills.short
+            (secrets_short s.hash strings (map (digest_of st.hashes) (reveals_of (core b))) may.fits);
+        runs = subst (λ x. script_meaning s.hash (is_valid w.book dg) x stack ≡ true) (sym script_is)
+            (witness_opens s.hash (is_valid w.book dg) st held.position choice i sigs strings setup.hash.size comp fills);
       }
 
   -- ---- the deposits
@@ -185,7 +202,8 @@ module _ (s : Setup) (setup : IsSetup s) (g : Configuration) (w : World) (kept :
   abbrev pub ns : List ℕ
   ns = map (λ name. number_of w held.contract ((put name).0)) (puts_of (core b))
 
-  not_first : (names : List (List ℕ)) → ((name : List ℕ) → Is_in name names → Is_in (put name) (deposits st.advert.pre)) → has_number n (map (λ name. number_of w held.contract ((put name).0)) names) ≡ false
+  not_first : (names : List (List ℕ)) → ((name : List ℕ) → Is_in name names → Is_in (put name) (deposits st.advert.pre))
+      → has_number n (map (λ name. number_of w held.contract ((put name).0)) names) ≡ false
   not_first [] h = refl
   not_first (x ∷ names) h =
       let a = at_bound s g w kept held.contract st may.fine.compiled x ((put x).1) (h x (inl refl)) in
@@ -199,7 +217,9 @@ module _ (s : Setup) (setup : IsSetup s) (g : Configuration) (w : World) (kept :
   pub taking_asked : Asked s w setup.hash.size kept.apart made (taking_witnesses s w st held i choice b (prepared s.hash made)) (n ∷ ns)
   taking_asked = record {
     ready = (first_ready, ready_all s setup.hash.size g w kept held.contract st may.fine.compiled (tx_of made) put (puts_of (core b)) put_open);
-    distinct = and_from _ _ (not_from_false _ (not_first (puts_of (core b)) may.known_puts)) (numbers_apart s setup.hash.size g w kept held.contract st may.fine.compiled put (puts_of (core b)) may.known_puts (names_same (puts_of (core b)) may.different_puts));
+    distinct = and_from _ _ (not_from_false _ (not_first (puts_of (core b)) may.known_puts))
+        (numbers_apart s setup.hash.size g w kept held.contract st may.fine.compiled put (puts_of (core b)) may.known_puts
+        (names_same (puts_of (core b)) may.different_puts));
     some = omega arith;
     makes = may.makes;
     enough = may.enough;

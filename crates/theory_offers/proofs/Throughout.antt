@@ -14,10 +14,10 @@ use Rattle.spec_run.specs.Setup.{Setup, is_honest, held_secret}
 use Rattle.spec_data.specs.Messages.{collision}
 use Rattle.spec_run.specs.World.{Promise, World}
 use Rattle.spec_run.specs.Conditions.{IsSetup, IsEvent}
-use Rattle.spec_run.specs.Draft.{settled, guess}
+use Rattle.spec_run.specs.Pending.{applied, guess}
 use Rattle.spec_run.specs.Revealing.{fits, fitting}
 use Rattle.spec_run.specs.Secrets.{digest_at, is_shown, secret_size, length_in_run}
-use Rattle.spec_run.specs.Event.{Progress, draft, record_of, opening_world, opening_collision, played}
+use Rattle.spec_run.specs.Event.{Progress, pending, record_of, opening_world, opening_collision, played}
 use Rattle.spec_run.specs.Translation.{turn_of, world_after, opening_configuration, last_configuration, last_world}
 use Rattle.spec_run.specs.Agreement.{Agree}
 use Rattle.spec_run.specs.Offers.{Offer, offers}
@@ -52,8 +52,8 @@ events_more [] r = refl
 events_more (x ∷ rs) r = λ i. x.event ∷ events_more rs r i
 
 cut_after : (s : Setup) (z : List (List ℕ)) (es : List Event) (g : Configuration) (w : World) (e : Event) → Cut s es g w → IsEvent s e
-    → collision s.hash w.hashed (draft s w e).hashes ≡ None → guess s w.posted (draft s w e).posts (draft s w e).allowed ≡ None
-    → Cut s (es ++ e ∷ []) (turn_at s z g w e).configuration (settled w (draft s w e))
+    → collision s.hash w.hashed (pending s w e).hashes ≡ None → guess s w.posted (pending s w e).posts (pending s w e).allowed ≡ None
+    → Cut s (es ++ e ∷ []) (turn_at s z g w e).configuration (applied w (pending s w e))
 cut_after s z es g w e cut is calm unguessed =
     let first = opening_world s in
     let ps = (played s es).passed in
@@ -143,7 +143,7 @@ module _ (s : Setup) (setup : IsSetup s) (opens : opening_collision s ≡ None) 
   keeps_offers = record {
     step = λ before g w e kept is calm unguessed begins.
         let t = turn_at s z g w e in
-        let r = record_of e (draft s w e) in
+        let r = record_of e (pending s w e) in
         let all = all_after s setup z before g w kept.all e is calm unguessed begins in
         let cut : Cut s (map (λ x. x.event) (before ++ r ∷ [])) t.configuration t.world =
         subst (λ es. Cut s es t.configuration t.world) (sym (events_more before r))

@@ -36,12 +36,15 @@ named_by name party (Persistent p v n ∷ pre) h = or_right (bytes_eq n name) _ 
 named_by name party (Volatile p v n ∷ pre) h = or_right (bytes_eq n name) _ (named_by name party pre h)
 named_by name party (Secret p n ∷ pre) h = by_test (bytes_eq p party) h (named_by name party pre)
   where
-    by_test : (b : Bool) → is_among name (if b then n ∷ names_of_party party (secrets pre) else names_of_party party (secrets pre)) ≡ true → (is_among name (names_of_party party (secrets pre)) ≡ true → is_among name (map name_in pre) ≡ true) → (bytes_eq n name || is_among name (map name_in pre)) ≡ true
+    by_test : (b : Bool) → is_among name (if b then n ∷ names_of_party party (secrets pre) else names_of_party party (secrets pre)) ≡ true
+        → (is_among name (names_of_party party (secrets pre)) ≡ true → is_among name (map name_in pre) ≡ true)
+        → (bytes_eq n name || is_among name (map name_in pre)) ≡ true
     by_test true q ih = elim (or_cases (bytes_eq n name) (is_among name (names_of_party party (secrets pre))) q) [ inl x ↦ or_left _ _ x | inr x ↦ or_right (bytes_eq n name) _ (ih x) ]
     by_test false q ih = or_right (bytes_eq n name) _ (ih q)
 
 -- a name of one precondition is of one party
-one_owner : (name party owner : List ℕ) (pre : List Pre) → are_different (map name_in pre) ≡ true → look_up name (secrets pre) ≡ Some owner → is_among name (names_of_party party (secrets pre)) ≡ true → party ≡ owner
+one_owner : (name party owner : List ℕ) (pre : List Pre) → are_different (map name_in pre) ≡ true → look_up name (secrets pre) ≡ Some owner
+    → is_among name (names_of_party party (secrets pre)) ≡ true → party ≡ owner
 one_owner name party owner [] d l h = cc
 one_owner name party owner (Persistent p v n ∷ pre) d l h = one_owner name party owner pre (and_parts _ (are_different (map name_in pre)) d).1 l h
 one_owner name party owner (Volatile p v n ∷ pre) d l h = one_owner name party owner pre (and_parts _ (are_different (map name_in pre)) d).1 l h
@@ -65,7 +68,8 @@ found_before : (ds es : List (List ℕ × List ℕ)) (name d : List ℕ) → loo
 found_before [] es name d h = cc
 found_before (x ∷ ds) es name d h = by_test (bytes_eq (x.0) name) h (found_before ds es name d)
   where
-    by_test : (b : Bool) → (if b then Some (x.1) else look_up name ds) ≡ Some d → (look_up name ds ≡ Some d → digest_of (ds ++ es) name ≡ d) → (if b then x.1 else digest_of (ds ++ es) name) ≡ d
+    by_test : (b : Bool) → (if b then Some (x.1) else look_up name ds) ≡ Some d → (look_up name ds ≡ Some d → digest_of (ds ++ es) name ≡ d)
+        → (if b then x.1 else digest_of (ds ++ es) name) ≡ d
     by_test true q ih = cc
     by_test false q ih = ih q
 
@@ -73,24 +77,29 @@ found_behind : (ds es : List (List ℕ × List ℕ)) (name : List ℕ) → look_
 found_behind [] es name h = refl
 found_behind (x ∷ ds) es name h = by_test (bytes_eq (x.0) name) h (found_behind ds es name)
   where
-    by_test : (b : Bool) → (if b then Some (x.1) else look_up name ds) ≡ None → (look_up name ds ≡ None → digest_of (ds ++ es) name ≡ digest_of es name) → (if b then x.1 else digest_of (ds ++ es) name) ≡ digest_of es name
+    by_test : (b : Bool) → (if b then Some (x.1) else look_up name ds) ≡ None
+        → (look_up name ds ≡ None → digest_of (ds ++ es) name ≡ digest_of es name) → (if b then x.1 else digest_of (ds ++ es) name) ≡ digest_of es name
     by_test true q ih = cc
     by_test false q ih = ih q
 
 -- where only the owner's commitment has the name, its digest is the owner's
-digest_is : (k : ℕ) (owner name d : List ℕ) (ps : List Promise) → ((p : Promise) → Is_in p ps → p.contract ≡ k → is_some (look_up name p.digests) ≡ true → p.party ≡ owner)
+digest_is : (k : ℕ) (owner name d : List ℕ) (ps : List Promise)
+    → ((p : Promise) → Is_in p ps → p.contract ≡ k → is_some (look_up name p.digests) ≡ true → p.party ≡ owner)
     → digest_at ps (record { contract = k; party = owner; secret = name }) ≡ Some d → digest_of (digests_at ps k) name ≡ d
 digest_is k owner name d [] own h = cc
 digest_is k owner name d (p ∷ ps) own h = by_tests (p.contract == k) (bytes_eq p.party owner) refl refl h (digest_is k owner name d ps (λ q i. own q (inr i)))
   where
-    by_name : (o : Option (List ℕ)) → look_up name p.digests ≡ o → (p.contract == k) ≡ true → bytes_eq p.party owner ≡ false → digest_of (digests_at ps k) name ≡ d → digest_of (p.digests ++ digests_at ps k) name ≡ d
+    by_name : (o : Option (List ℕ)) → look_up name p.digests ≡ o → (p.contract == k) ≡ true → bytes_eq p.party owner ≡ false
+        → digest_of (digests_at ps k) name ≡ d → digest_of (p.digests ++ digests_at ps k) name ≡ d
     by_name None e a b ih = found_behind p.digests (digests_at ps k) name e ∙ ih
     by_name (Some x) e a b ih =
         let z = own p (inl refl) (eqb-true p.contract k a) (ap is_some e) in
         absurd (both_ways _ b (subst (λ y. bytes_eq p.party y ≡ true) z (bytes_refl p.party)))
 
-    by_tests : (a b : Bool) → (p.contract == k) ≡ a → bytes_eq p.party owner ≡ b → (if a && b then look_up name p.digests else digest_at ps (record { contract = k; party = owner; secret = name })) ≡ Some d
-        → (digest_at ps (record { contract = k; party = owner; secret = name }) ≡ Some d → digest_of (digests_at ps k) name ≡ d) → digest_of (if a then p.digests ++ digests_at ps k else digests_at ps k) name ≡ d
+    by_tests : (a b : Bool) → (p.contract == k) ≡ a → bytes_eq p.party owner ≡ b
+        → (if a && b then look_up name p.digests else digest_at ps (record { contract = k; party = owner; secret = name })) ≡ Some d
+        → (digest_at ps (record { contract = k; party = owner; secret = name }) ≡ Some d → digest_of (digests_at ps k) name ≡ d)
+        → digest_of (if a then p.digests ++ digests_at ps k else digests_at ps k) name ≡ d
     by_tests true true e f x ih = found_before p.digests (digests_at ps k) name d x
     by_tests true false e f x ih = by_name (look_up name p.digests) refl e f (ih x)
     by_tests false true e f x ih = ih x
@@ -100,7 +109,8 @@ digest_is k owner name d (p ∷ ps) own h = by_tests (p.contract == k) (bytes_eq
 
 module _ (s : Setup) (z : List (List ℕ)) (g : Configuration) (w : World) (secrets_kept : KeptSecrets s z g w) (begins : Begins z w.posted) where
   -- the length in the run is that of the string that is shown
-  length_is : (owner name d t : List ℕ) → (is_honest s owner ≡ true → is_own s w.hashed (held_secret s owner name) (Some d) ≡ true) → fitting s w.posted d ≡ Some t → length_in_run s z owner name d ≡ Some (length t - 16)
+  length_is : (owner name d t : List ℕ) → (is_honest s owner ≡ true → is_own s w.hashed (held_secret s owner name) (Some d) ≡ true)
+      → fitting s w.posted d ≡ Some t → length_in_run s z owner name d ≡ Some (length t - 16)
   length_is owner name d t own f = by_honest (is_honest s owner) refl
     where
       ft : (fits s d t ≡ true) × (is_among t w.posted ≡ true)
@@ -115,7 +125,8 @@ module _ (s : Setup) (z : List (List ℕ)) (g : Configuration) (w : World) (secr
           let e = secrets_kept.clear.one u t p.1 (secrets_kept.heard t ft.1) (bytes-true (s.hash u) d q.0 ∙ sym (bytes-true (s.hash t) d r.1)) in
           ap (λ x. Some (secret_size x)) e
 
-      by_honest : (b : Bool) → is_honest s owner ≡ b → (if b then option_map secret_size (held_secret s owner name) else option_map secret_size (fitting s z d)) ≡ Some (length t - 16)
+      by_honest : (b : Bool) → is_honest s owner ≡ b
+          → (if b then option_map secret_size (held_secret s owner name) else option_map secret_size (fitting s z d)) ≡ Some (length t - 16)
       by_honest true h = by_held (held_secret s owner name) (own h)
       by_honest false h = ap (option_map secret_size) (begins.first (fits s d) (any_found (fits s d) w.posted (ap is_some f)) ∙ f)
 
@@ -131,7 +142,9 @@ module _ (s : Setup) (z : List (List ℕ)) (g : Configuration) (w : World) (secr
     shown_secret : (name : List ℕ) → is_revealed_by g.revealed k (look_up name (secrets st.advert.pre)) name ≡ true → ShownSecret name
     shown_secret name h = by_owner (look_up name (secrets st.advert.pre)) refl h
       where
-        by_string : (owner d : List ℕ) → look_up name (secrets st.advert.pre) ≡ Some owner → digest_at w.promises (record { contract = k; party = owner; secret = name }) ≡ Some d → (o : Option (List ℕ)) → fitting s w.posted d ≡ o → is_some o ≡ true → ShownSecret name
+        by_string : (owner d : List ℕ) → look_up name (secrets st.advert.pre) ≡ Some owner
+            → digest_at w.promises (record { contract = k; party = owner; secret = name }) ≡ Some d → (o : Option (List ℕ))
+            → fitting s w.posted d ≡ o → is_some o ≡ true → ShownSecret name
         by_string owner d l e None f q = cc
         by_string owner d l e (Some t) f q =
             let x : Revealed = record { contract = k; party = owner; secret = name } in
@@ -141,10 +154,13 @@ module _ (s : Setup) (z : List (List ℕ)) (g : Configuration) (w : World) (secr
               string = t;
               found = ap (fitting s w.posted) di ∙ f;
               fit = subst (λ y. fits s y t ≡ true) (sym di) (found (fits s d) w.posted t f).0;
-              size = ap (λ o. length_by g.committed k o name) l ∙ ap (λ cs. known_length (length_at cs k owner name)) secrets_kept.lengths ∙ ap known_length (length_at-by s z x w.promises) ∙ ap (λ o. known_length (option_map (length_in_run s z owner name) o)) e ∙ ap (λ o. known_length (Some o)) len;
+              size = ap (λ o. length_by g.committed k o name) l ∙ ap (λ cs. known_length (length_at cs k owner name)) secrets_kept.lengths
+                  ∙ ap known_length (length_at-by s z x w.promises) ∙ ap (λ o. known_length (option_map (length_in_run s z owner name) o)) e
+                  ∙ ap (λ o. known_length (Some o)) len;
             }
 
-        by_digest : (owner : List ℕ) → look_up name (secrets st.advert.pre) ≡ Some owner → (o : Option (List ℕ)) → digest_at w.promises (record { contract = k; party = owner; secret = name }) ≡ o → is_shown s w.posted o ≡ true → ShownSecret name
+        by_digest : (owner : List ℕ) → look_up name (secrets st.advert.pre) ≡ Some owner → (o : Option (List ℕ))
+            → digest_at w.promises (record { contract = k; party = owner; secret = name }) ≡ o → is_shown s w.posted o ≡ true → ShownSecret name
         by_digest owner l None e q = cc
         by_digest owner l (Some d) e q = by_string owner d l e (fitting s w.posted d) refl q
 

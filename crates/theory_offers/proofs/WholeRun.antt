@@ -8,8 +8,8 @@ use Rattle.spec_run.specs.Setup.{Setup}
 use Rattle.spec_data.specs.Messages.{collision}
 use Rattle.spec_run.specs.World.{World}
 use Rattle.spec_run.specs.Conditions.{IsSetup, IsEvent}
-use Rattle.spec_run.specs.Draft.{settled, guess}
-use Rattle.spec_run.specs.Event.{draft, record_of, opening_world}
+use Rattle.spec_run.specs.Pending.{applied, guess}
+use Rattle.spec_run.specs.Event.{pending, record_of, opening_world}
 use Rattle.spec_run.specs.Steps.{steps_of}
 use Rattle.spec_run.specs.Translation.{opening_configuration, last_configuration, last_world}
 use Rattle.spec_run.specs.Agreement.{Agree}
@@ -33,8 +33,9 @@ pub record KeptAll (s : Setup) (z : List (List ℕ)) (before : List Record) (g :
   pub more : KeptOffers s g w
 
 module _ (s : Setup) (setup : IsSetup s) (z : List (List ℕ)) (before : List Record) (g : Configuration) (w : World) (kept : KeptAll s z before g w)
-    (e : Event) (is : IsEvent s e) (calm : collision s.hash w.hashed (draft s w e).hashes ≡ None) (unguessed : guess s w.posted (draft s w e).posts (draft s w e).allowed ≡ None) (begins : Begins z (settled w (draft s w e)).posted) where
-  pub all_after : KeptAll s z (before ++ record_of e (draft s w e) ∷ []) (after_steps g (steps_of s z g w (settled w (draft s w e)) e (draft s w e))) (settled w (draft s w e))
+    (e : Event) (is : IsEvent s e) (calm : collision s.hash w.hashed (pending s w e).hashes ≡ None) (unguessed : guess s w.posted (pending s w e).posts (pending s w e).allowed ≡ None) (begins : Begins z (applied w (pending s w e)).posted) where
+  pub all_after : KeptAll s z (before ++ record_of e (pending s w e) ∷ [])
+      (after_steps g (steps_of s z g w (applied w (pending s w e)) e (pending s w e))) (applied w (pending s w e))
   all_after =
       let books = kept.honest.run.books in
       record {
@@ -47,7 +48,13 @@ pub opening_all : (s : Setup) (es : List Event) → IsRun s es → (z : List (Li
 opening_all s es run z = record { honest = opening_honest s es run z; starts = opening_starts s (opening_world s); more = opening_kept s run.setup }
 
 pub keeps_all : (s : Setup) → IsSetup s → (z : List (List ℕ)) → Keeps s (spends_with_leave s) (KeptAll s z) z
-keeps_all s setup z = record { step = λ before g w e k is calm unguessed begins. (left_with_leave s setup z before g w k.honest e is calm unguessed begins, all_after s setup z before g w k e is calm unguessed begins) }
+keeps_all s setup z = record {
+  step = λ before g w e k is calm unguessed begins. (
+    left_with_leave s setup z before g w k.honest e is calm
+        unguessed begins,
+    all_after s setup z before g w k e is calm unguessed begins,
+  );
+}
 
 -- what is offered after a run is kept
 pub kept_offers : OffersTheorem

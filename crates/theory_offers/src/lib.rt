@@ -1,4 +1,5 @@
-//! What follows of the offers of a run: each theorem is the contract of a function that does nothing.
+//! Theorems on offers: all that the calculus allows is offered, and the ledger accepts it. Each is the contract of a
+//! function that does nothing.
 #![tactic(auto)]
 
 ghost use Rattle.spec_run.specs.Statements.{OffersTheorem, OffersThroughoutTheorem};

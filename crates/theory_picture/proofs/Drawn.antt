@@ -24,10 +24,10 @@ use Rattle.theory_picture.proofs.Named.{if_named, names_in, pictures_are_named, 
 use Rattle.theory_picture.proofs.Order.{if_box, names, rows_in_order}
 use Rattle.theory_picture.proofs.Held.{drawn_hold, drawn_counted}
 
-in_front : (part : Bool) (w : Which) (ws : List Which) (xs : List (List ℕ)) → xs ≡ map node_id ws
+before_this : (part : Bool) (w : Which) (ws : List Which) (xs : List (List ℕ)) → xs ≡ map node_id ws
     → if_named (row_name part w) ++ xs ≡ map node_id (if_box part w ws)
-in_front true w ws xs e = e
-in_front false w ws xs e = ap (λ (ys : List (List ℕ)). node_id w ∷ ys) e
+before_this true w ws xs e = e
+before_this false w ws xs e = ap (λ (ys : List (List ℕ)). node_id w ∷ ys) e
 
 -- of the transactions
 graph_names : (wide : ℕ) (parties : List (List ℕ)) (fee : ℕ) (takes offered : List (Option Which)) (places : Places) (rs : List TreeRow)
@@ -35,7 +35,7 @@ graph_names : (wide : ℕ) (parties : List (List ℕ)) (fee : ℕ) (takes offere
 unfolding row_group
 graph_names wide parties fee takes offered places [] = refl
 graph_names wide parties fee takes offered places (r ∷ rs) =
-    in_front r.part r.which (names rs) (names_in (graph_groups wide parties fee takes offered places rs))
+    before_this r.part r.which (names rs) (names_in (graph_groups wide parties fee takes offered places rs))
     (graph_names wide parties fee takes offered places rs)
 
 -- of the rows of events

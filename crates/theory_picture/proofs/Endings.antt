@@ -3,7 +3,7 @@ use Rattle.std.proofs.Common.{◌≡◌, ℕ, List, [], ◌∷◌, Option, Some,
 use Rattle.spec_terms.specs.Advert.{Advert}
 use Rattle.spec_run.specs.declared.event.Event.{Event}
 use Rattle.spec_run.specs.Setup.{Setup}
-use Rattle.spec_run.specs.Draft.{Halt, Collided, Guessed}
+use Rattle.spec_run.specs.Pending.{Halt, Collided, Guessed}
 use Rattle.spec_run.specs.Event.{opening_collision}
 use Rattle.spec_run.specs.Translation.{course, end_world, end_configuration, first_halt}
 use Rattle.spec_text.specs.declared.entry.Entry.{Entry}
@@ -32,7 +32,8 @@ module _ (s : Setup) (es : List Event) where
 
   -- ---- what is drawn of it
 
-  pub whole_last : opening_collision s ≡ None → first_halt s es ≡ None → last_of (end_of (end_world s (course s es)) (end_configuration s (course s es))) ≡ last_of (ending s es)
+  pub whole_last : opening_collision s ≡ None → first_halt s es ≡ None
+      → last_of (end_of (end_world s (course s es)) (end_configuration s (course s es))) ≡ last_of (ending s es)
   whole_last opens h = sym (ap last_of (opened_is None opens h))
 
   pub halted_last : (e : Event) (halt : Halt) → opening_collision s ≡ None → first_halt s es ≡ Some (e, halt)
@@ -59,7 +60,8 @@ module _ (title : List ℕ) (s : Setup) (es : List Event) (advert : Advert) (one
   unfolding draw_text
   left_answer rows last opens e f =
       let end = ending s es in
-      ap (λ (xs : List Entry). prints (last_status last) (picture_text title advert xs last)) (e ∙ sym (all_drawn s es (first_halt s es) opens refl (entries s es)))
+      ap (λ (xs : List Entry). prints (last_status last) (picture_text title advert xs last))
+      (e ∙ sym (all_drawn s es (first_halt s es) opens refl (entries s es)))
       ∙ ap (λ (l : Last). prints (last_status l) (picture_text title advert (drawn_of end (entries s es)) l)) f
       ∙ ap (λ (n : ℕ). prints n (picture_text title advert (drawn_of end (entries s es)) (last_of end))) (status_is end)
       ∙ ap (λ (as' : List Advert). prints (ending_status end) (first_picture title (entries s es) end as')) (sym one)

@@ -36,21 +36,21 @@ all_held (e ∷ es) = let h = held_all (first_fold e) es in omega (arith, h)
 
 -- ---- those that are drawn
 
-front_holds : (k n : ℕ) (fs : List Fold) → HoldFrom n fs → HoldFrom n (take k fs)
-front_holds zero n fs h = tt
-front_holds (suc k) n [] h = tt
-front_holds (suc k) n (f ∷ fs) h = (h.0, h.1, front_holds k (n + f.count) fs h.2)
+prefix_holds : (k n : ℕ) (fs : List Fold) → HoldFrom n fs → HoldFrom n (take k fs)
+prefix_holds zero n fs h = tt
+prefix_holds (suc k) n [] h = tt
+prefix_holds (suc k) n (f ∷ fs) h = (h.0, h.1, prefix_holds k (n + f.count) fs h.2)
 
-front_held : (k : ℕ) (fs : List Fold) → held_by (take k fs) ≤ held_by fs
-front_held zero fs = omega arith
-front_held (suc k) [] = omega arith
-front_held (suc k) (f ∷ fs) = let h = front_held k fs in omega (arith, h)
+prefix_held : (k : ℕ) (fs : List Fold) → held_by (take k fs) ≤ held_by fs
+prefix_held zero fs = omega arith
+prefix_held (suc k) [] = omega arith
+prefix_held (suc k) (f ∷ fs) = let h = prefix_held k fs in omega (arith, h)
 
 pub drawn_hold : (es : List Entry) → HoldFrom 1 (drawn_rows es)
-drawn_hold es = front_holds most_rows 1 (folded es) (all_hold es)
+drawn_hold es = prefix_holds most_rows 1 (folded es) (all_hold es)
 
 pub drawn_held : (es : List Entry) → held_by (drawn_rows es) ≤ length es
-drawn_held es = let a = front_held most_rows (folded es) in let b = all_held es in omega (arith, a, b)
+drawn_held es = let a = prefix_held most_rows (folded es) in let b = all_held es in omega (arith, a, b)
 
 pub drawn_counted : (es : List Entry) → held_by (drawn_rows es) + left_out es ≡ length es
 drawn_counted es = let h = drawn_held es in omega (arith, h)

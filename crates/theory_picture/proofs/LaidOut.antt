@@ -50,7 +50,8 @@ transaction_texts wide parties fee event output r None rest h e =
     ∷ record { letter = 5 * r.stem.depth + 1; row = r.row + 2; most = 24 } ∷ ps)) (sym e)
     (record {
       apart = ((inl (omega arith), (inl (omega arith), tt)), ((inl (omega arith), tt), (tt, tt)));
-      among = ((omega arith, omega arith, omega (arith, h)), ((omega arith, omega arith, omega (arith, h)), ((omega arith, omega arith, omega (arith, h)), tt)));
+      among =
+          ((omega arith, omega arith, omega (arith, h)), ((omega arith, omega arith, omega (arith, h)), ((omega arith, omega arith, omega (arith, h)), tt)));
     })
 transaction_texts wide parties fee event output r (Some party) rest h e =
     subst (λ (ps : List Place). Block wide r.row (r.row + 3)

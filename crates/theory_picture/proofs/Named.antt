@@ -10,15 +10,15 @@ use Rattle.theory_picture.proofs.Lines.{named_lines, ids_of_lines}
 -- ---- shapes
 
 -- what is shown of a text
-cut_named : (fits : Bool) (front text : List ℕ)
-    → are_named (if fits then words text nothing else inner (element (codes "title") [] (words text nothing)) (words front (words (codes "..") nothing))) ≡ true
-cut_named true front text = refl
-cut_named false front text = refl
+cut_named : (fits : Bool) (prefix text : List ℕ)
+    → are_named (if fits then words text nothing else inner (element (codes "title") [] (words text nothing)) (words prefix (words (codes "..") nothing))) ≡ true
+cut_named true prefix text = refl
+cut_named false prefix text = refl
 
-cut_ids : (fits : Bool) (front text : List ℕ)
-    → ids_inside (if fits then words text nothing else inner (element (codes "title") [] (words text nothing)) (words front (words (codes "..") nothing))) ≡ []
-cut_ids true front text = refl
-cut_ids false front text = refl
+cut_ids : (fits : Bool) (prefix text : List ℕ)
+    → ids_inside (if fits then words text nothing else inner (element (codes "title") [] (words text nothing)) (words prefix (words (codes "..") nothing))) ≡ []
+cut_ids true prefix text = refl
+cut_ids false prefix text = refl
 
 shapes_named : (ss : List Shape) → are_named (inside ss) ≡ true
 unfolding label_at box_at dot_at line_through

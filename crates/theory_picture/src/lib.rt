@@ -1,4 +1,5 @@
-//! What follows of pictures: each theorem is the contract of a function that does nothing.
+//! Theorems on pictures: they are well-formed XML, show each event once, and no two texts meet. Each is the contract of
+//! a function that does nothing.
 #![tactic(auto)]
 
 ghost use Rattle.spec_picture.specs.Drawing.{AnswersArePictures};

@@ -88,15 +88,15 @@ one_is a b v w p q whole =
 
 -- ---- groups that are read
 
-whole_only : (a b c d : ℕ) (o p q r : Option ℕ) (front text rest : List ℕ) → value_of a ≡ o → value_of b ≡ p → value_of c ≡ q → value_of d ≡ r
-    → whole_by o p q r ≡ some front → IsOf text rest → IsOf (a ∷ b ∷ c ∷ d ∷ text) (front ++ rest)
-whole_only a b c d None p q r front text rest ea eb ec ed h later = absurd cc
-whole_only a b c d (Some v) None q r front text rest ea eb ec ed h later = absurd cc
-whole_only a b c d (Some v) (Some w) None r front text rest ea eb ec ed h later = absurd cc
-whole_only a b c d (Some v) (Some w) (Some x) None front text rest ea eb ec ed h later = absurd cc
-whole_only a b c d (Some v) (Some w) (Some x) (Some y) front text rest ea eb ec ed h later =
+whole_only : (a b c d : ℕ) (o p q r : Option ℕ) (prefix text rest : List ℕ) → value_of a ≡ o → value_of b ≡ p → value_of c ≡ q → value_of d ≡ r
+    → whole_by o p q r ≡ some prefix → IsOf text rest → IsOf (a ∷ b ∷ c ∷ d ∷ text) (prefix ++ rest)
+whole_only a b c d None p q r prefix text rest ea eb ec ed h later = absurd cc
+whole_only a b c d (Some v) None q r prefix text rest ea eb ec ed h later = absurd cc
+whole_only a b c d (Some v) (Some w) None r prefix text rest ea eb ec ed h later = absurd cc
+whole_only a b c d (Some v) (Some w) (Some x) None prefix text rest ea eb ec ed h later = absurd cc
+whole_only a b c d (Some v) (Some w) (Some x) (Some y) prefix text rest ea eb ec ed h later =
     let three = first_byte v w ∷ second_byte w x ∷ third_byte x y ∷ [] in
-    subst (λ (f : List ℕ). IsOf (a ∷ b ∷ c ∷ d ∷ text) (f ++ rest)) (some_is three front h)
+    subst (λ (f : List ℕ). IsOf (a ∷ b ∷ c ∷ d ∷ text) (f ++ rest)) (some_is three prefix h)
     (three_are a b c d v w x y text rest (symbol_of_value a v ea) (symbol_of_value b w eb) (symbol_of_value c x ec) (symbol_of_value d y ed) later)
 
 two_only : (a b c : ℕ) (o p q : Option ℕ) (bytes : List ℕ) → value_of a ≡ o → value_of b ≡ p → value_of c ≡ q
@@ -137,17 +137,17 @@ last_only a b c d false u bytes et eu h =
 -- ---- the whole
 
 pub record AreBoth (o p : Option (List ℕ)) (bytes : List ℕ) : Type 0 where
-  pub front : List ℕ
+  pub prefix : List ℕ
   pub more : List ℕ
-  pub first : o ≡ some front
+  pub first : o ≡ some prefix
   pub later : p ≡ some more
-  pub all : front ++ more ≡ bytes
+  pub all : prefix ++ more ≡ bytes
 
 both_are : (o p : Option (List ℕ)) (bytes : List ℕ) → joined o p ≡ some bytes → AreBoth o p bytes
 both_are None p bytes h = absurd cc
-both_are (Some front) None bytes h = absurd cc
-both_are (Some front) (Some more) bytes h =
-    record { front = front; more = more; first = refl; later = refl; all = some_is (front ++ more) bytes h }
+both_are (Some prefix) None bytes h = absurd cc
+both_are (Some prefix) (Some more) bytes h =
+    record { prefix = prefix; more = more; first = refl; later = refl; all = some_is (prefix ++ more) bytes h }
 
 pub bytes_only : (text bytes : List ℕ) → base64_bytes text ≡ some bytes → IsOf text bytes
 unfolding base64_bytes
@@ -160,4 +160,4 @@ bytes_only (a ∷ b ∷ c ∷ d ∷ e ∷ rest) bytes h =
     let both = both_are (whole_group a b c d) (base64_bytes (e ∷ rest)) bytes h in
     let later = bytes_only (e ∷ rest) both.more both.later in
     subst (λ (f : List ℕ). IsOf (a ∷ b ∷ c ∷ d ∷ e ∷ rest) f) both.all
-    (whole_only a b c d (value_of a) (value_of b) (value_of c) (value_of d) both.front (e ∷ rest) both.more refl refl refl refl both.first later)
+    (whole_only a b c d (value_of a) (value_of b) (value_of c) (value_of d) both.prefix (e ∷ rest) both.more refl refl refl refl both.first later)

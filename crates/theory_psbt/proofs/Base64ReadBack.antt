@@ -60,13 +60,13 @@ last_whole a b c d e = ap (λ (t : Bool). if t then (if c == padding then one_gr
 last_two : (a b c : ℕ) → (c == padding) ≡ false → last_group a b c padding ≡ two_group a b c
 last_two a b c e = ap (λ (t : Bool). if t then one_group a b else two_group a b c) e
 
-onto_text : (a b c d : ℕ) (text front bytes : List ℕ) → (d == padding) ≡ false → whole_group a b c d ≡ some front
-    → base64_bytes text ≡ some bytes → base64_bytes (a ∷ b ∷ c ∷ d ∷ text) ≡ some (front ++ bytes)
+onto_text : (a b c d : ℕ) (text prefix bytes : List ℕ) → (d == padding) ≡ false → whole_group a b c d ≡ some prefix
+    → base64_bytes text ≡ some bytes → base64_bytes (a ∷ b ∷ c ∷ d ∷ text) ≡ some (prefix ++ bytes)
 unfolding base64_bytes
-onto_text a b c d [] front bytes e g h =
+onto_text a b c d [] prefix bytes e g h =
     let none = some_is [] bytes h in
-    last_whole a b c d e ∙ (g ∙ (ap some (sym (append-nil front)) ∙ ap (λ (more : List ℕ). some (front ++ more)) none))
-onto_text a b c d (x ∷ text) front bytes e g h = λ i. joined (g i) (h i)
+    last_whole a b c d e ∙ (g ∙ (ap some (sym (append-nil prefix)) ∙ ap (λ (more : List ℕ). some (prefix ++ more)) none))
+onto_text a b c d (x ∷ text) prefix bytes e g h = λ i. joined (g i) (h i)
 
 -- ---- texts
 

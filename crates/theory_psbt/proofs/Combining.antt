@@ -26,10 +26,10 @@ pub record Sound (p : Psbt) : Type 0 where
 
 pub sound : (p : Psbt) → is_psbt p ≡ true → Sound p
 sound p h =
-    let front = and_left (is_unsigned p.tx && eqb (length p.inputs) (length p.tx.inputs)) _ h in
+    let prefix = and_left (is_unsigned p.tx && eqb (length p.inputs) (length p.tx.inputs)) _ h in
     record {
-      unsigned = and_left (is_unsigned p.tx) _ front;
-      count = eqb-true _ _ (and_right (is_unsigned p.tx) _ front);
+      unsigned = and_left (is_unsigned p.tx) _ prefix;
+      count = eqb-true _ _ (and_right (is_unsigned p.tx) _ prefix);
       ascend = and_right (is_unsigned p.tx && eqb (length p.inputs) (length p.tx.inputs)) _ h;
     }
 
@@ -63,7 +63,8 @@ other_conflict k e = absurd cc
 pub data Goes (a b : Psbt) : Type 0 where
   other : (a.tx ≡ b.tx → ⊥) → combined a b ≡ Err other_tx → Goes a b
   stops : (k : ℕ) → a.tx ≡ b.tx → first_conflict 0 a.inputs b.inputs ≡ Some k → combined a b ≡ Err (conflict k) → Goes a b
-  joins : a.tx ≡ b.tx → first_conflict 0 a.inputs b.inputs ≡ None → combined a b ≡ Ok (record { tx = a.tx; inputs = inputs_joined a.inputs b.inputs }) → Goes a b
+  joins : a.tx ≡ b.tx → first_conflict 0 a.inputs b.inputs ≡ None → combined a b
+      ≡ Ok (record { tx = a.tx; inputs = inputs_joined a.inputs b.inputs }) → Goes a b
 
 pub goes : (a b : Psbt) → is_psbt a ≡ true → is_psbt b ≡ true → Goes a b
 goes a b h k = by_tx (same_bare a.tx b.tx) refl
@@ -81,7 +82,8 @@ goes a b h k = by_tx (same_bare a.tx b.tx) refl
 abbrev here_or : ℕ → List PsbtInput → List PsbtInput → Bool → Option ℕ
 here_or k xs ys t = if t then Some k else first_conflict (k + 1) xs ys
 
-conflict_back : (k : ℕ) (xs ys : List PsbtInput) → list_all signs_ascend xs ≡ true → list_all signs_ascend ys ≡ true → first_conflict k xs ys ≡ first_conflict k ys xs
+conflict_back : (k : ℕ) (xs ys : List PsbtInput) → list_all signs_ascend xs ≡ true → list_all signs_ascend ys ≡ true
+    → first_conflict k xs ys ≡ first_conflict k ys xs
 conflict_back k [] [] h g = refl
 conflict_back k [] (y ∷ ys) h g = refl
 conflict_back k (x ∷ xs) [] h g = refl
@@ -90,14 +92,16 @@ conflict_back k (x ∷ xs) (y ∷ ys) h g =
     let later = conflict_back (k + 1) xs ys (and_right (signs_ascend x) _ h) (and_right (signs_ascend y) _ g) in
     ap (here_or k xs ys) here ∙ ap (λ (o : Option ℕ). if inputs_differ y x then Some k else o) later
 
-no_conflict : (k : ℕ) (x y : PsbtInput) (xs ys : List PsbtInput) → first_conflict k (x ∷ xs) (y ∷ ys) ≡ None → (inputs_differ x y ≡ false) × (first_conflict (k + 1) xs ys ≡ None)
+no_conflict : (k : ℕ) (x y : PsbtInput) (xs ys : List PsbtInput) → first_conflict k (x ∷ xs) (y ∷ ys) ≡ None → (inputs_differ x y ≡ false)
+    × (first_conflict (k + 1) xs ys ≡ None)
 no_conflict k x y xs ys h = by_test (inputs_differ x y) refl h
   where
     by_test : (t : Bool) → inputs_differ x y ≡ t → here_or k xs ys t ≡ None → (inputs_differ x y ≡ false) × (first_conflict (k + 1) xs ys ≡ None)
     by_test true e q = absurd cc
     by_test false e q = (e, q)
 
-inputs_back : (k : ℕ) (xs ys : List PsbtInput) → length xs ≡ length ys → list_all signs_ascend xs ≡ true → list_all signs_ascend ys ≡ true → first_conflict k xs ys ≡ None → inputs_joined xs ys ≡ inputs_joined ys xs
+inputs_back : (k : ℕ) (xs ys : List PsbtInput) → length xs ≡ length ys → list_all signs_ascend xs ≡ true → list_all signs_ascend ys ≡ true
+    → first_conflict k xs ys ≡ None → inputs_joined xs ys ≡ inputs_joined ys xs
 inputs_back k [] [] n h g e = refl
 inputs_back k [] (y ∷ ys) n h g e = absurd (omega (arith, n))
 inputs_back k (x ∷ xs) [] n h g e = absurd (omega (arith, n))
@@ -140,7 +144,8 @@ other_tx_exactly a b h k = (λ e. only (goes a b h k) e, λ differ. always (goes
     always (joins same f q) d = absurd (d same)
 
 -- the first number is that of the first inputs that are apart
-first_apart : (n k : ℕ) (xs ys : List PsbtInput) → AllByRecursion IsKnown xs → AllByRecursion IsKnown ys → list_all signs_ascend xs ≡ true → FirstApart k xs ys → first_conflict n xs ys ≡ Some (n + k)
+first_apart : (n k : ℕ) (xs ys : List PsbtInput) → AllByRecursion IsKnown xs → AllByRecursion IsKnown ys → list_all signs_ascend xs ≡ true
+    → FirstApart k xs ys → first_conflict n xs ys ≡ Some (n + k)
 first_apart n k [] ys h g asc f = absurd f
 first_apart n k (x ∷ xs) [] h g asc f = absurd f
 first_apart n zero (x ∷ xs) (y ∷ ys) h g asc f = by_test (inputs_differ x y) refl
@@ -148,7 +153,8 @@ first_apart n zero (x ∷ xs) (y ∷ ys) h g asc f = by_test (inputs_differ x y)
     by_test : (t : Bool) → inputs_differ x y ≡ t → here_or n xs ys t ≡ Some (n + 0)
     by_test true e = let z : n ≡ n + 0 = omega arith in ap (λ (m : ℕ). Some m) z
     by_test false e = absurd (calm_not_apart x y e f)
-first_apart n (suc k) (x ∷ xs) (y ∷ ys) h g asc f = by_test (inputs_differ x y) refl (first_apart (n + 1) k xs ys h.1 g.1 (and_right (signs_ascend x) _ asc) f.1)
+first_apart n (suc k) (x ∷ xs) (y ∷ ys) h g asc f =
+    by_test (inputs_differ x y) refl (first_apart (n + 1) k xs ys h.1 g.1 (and_right (signs_ascend x) _ asc) f.1)
   where
     by_test : (t : Bool) → inputs_differ x y ≡ t → first_conflict (n + 1) xs ys ≡ Some ((n + 1) + k) → here_or n xs ys t ≡ Some (n + suc k)
     by_test true e later = absurd (f.0 (differ_are_apart x y h.0 g.0 (and_left _ _ asc) e))
@@ -160,16 +166,19 @@ record Found (n m : ℕ) (xs ys : List PsbtInput) : Type 0 where
   is : m ≡ n + place
   apart : FirstApart place xs ys
 
-conflict_apart : (n m : ℕ) (xs ys : List PsbtInput) → AllByRecursion IsKnown xs → AllByRecursion IsKnown ys → list_all signs_ascend xs ≡ true → first_conflict n xs ys ≡ Some m → Found n m xs ys
+conflict_apart : (n m : ℕ) (xs ys : List PsbtInput) → AllByRecursion IsKnown xs → AllByRecursion IsKnown ys → list_all signs_ascend xs
+    ≡ true → first_conflict n xs ys ≡ Some m → Found n m xs ys
 conflict_apart n m [] ys h g asc e = absurd cc
 conflict_apart n m (x ∷ xs) [] h g asc e = absurd cc
 conflict_apart n m (x ∷ xs) (y ∷ ys) h g asc e = by_test (inputs_differ x y) refl e (conflict_apart (n + 1) m xs ys h.1 g.1 (and_right (signs_ascend x) _ asc))
   where
-    by_test : (t : Bool) → inputs_differ x y ≡ t → here_or n xs ys t ≡ Some m → (first_conflict (n + 1) xs ys ≡ Some m → Found (n + 1) m xs ys) → Found n m (x ∷ xs) (y ∷ ys)
+    by_test : (t : Bool) → inputs_differ x y ≡ t → here_or n xs ys t ≡ Some m
+        → (first_conflict (n + 1) xs ys ≡ Some m → Found (n + 1) m xs ys) → Found n m (x ∷ xs) (y ∷ ys)
     by_test true d q later = let here : n ≡ m = some_is n m q in record { place = zero; is = omega (arith, here); apart = differ_are_apart x y h.0 g.0 (and_left _ _ asc) d }
     by_test false d q later = let f = later q in record { place = suc f.place; is = omega (arith, f.is); apart = (calm_not_apart x y d, f.apart) }
 
-pub conflict_exactly : (a b : Psbt) (k : ℕ) → IsFitting a → IsFitting b → ((combined a b ≡ refused (conflict k)) ↔ ((a.tx ≡ b.tx) × FirstApart k a.inputs b.inputs))
+pub conflict_exactly : (a b : Psbt) (k : ℕ) → IsFitting a → IsFitting b
+    → ((combined a b ≡ refused (conflict k)) ↔ ((a.tx ≡ b.tx) × FirstApart k a.inputs b.inputs))
 conflict_exactly a b k h g = (λ e. only (goes a b h.is g.is) e, λ w. always (goes a b h.is g.is) w)
   where
     only : Goes a b → combined a b ≡ refused (conflict k) → (a.tx ≡ b.tx) × FirstApart k a.inputs b.inputs
@@ -216,7 +225,8 @@ all_ascend (x ∷ xs) (y ∷ ys) h = and_is _ _ (joined_ascend x.partial y.parti
 pub combined_is_psbt : (a b : Psbt) → is_psbt a ≡ true → is_psbt (record { tx = a.tx; inputs = inputs_joined a.inputs b.inputs }) ≡ true
 combined_is_psbt a b h =
     let s = sound a h in
-    is_sound (record { tx = a.tx; inputs = inputs_joined a.inputs b.inputs }) (record { unsigned = s.unsigned; count = joined_count a.inputs b.inputs ∙ s.count; ascend = all_ascend a.inputs b.inputs s.ascend })
+    is_sound (record { tx = a.tx; inputs = inputs_joined a.inputs b.inputs })
+    (record { unsigned = s.unsigned; count = joined_count a.inputs b.inputs ∙ s.count; ascend = all_ascend a.inputs b.inputs s.ascend })
 
 pub combined_is_joined : (a b p : Psbt) → IsFitting a → IsFitting b → combined a b ≡ answer p → IsJoined a b p
 combined_is_joined a b p h g e = by_way (goes a b h.is g.is)

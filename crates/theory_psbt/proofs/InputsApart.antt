@@ -92,7 +92,13 @@ pub are_calm : (a b : PsbtInput) → inputs_differ a b ≡ false → AreCalm a b
 are_calm a b h =
     let later = or_right (output_odds a b) _ h in
     let last = or_right (signatures_differ a.partial b.partial) _ later in
-    record { spent = or_left (output_odds a b) _ h; signatures = or_left (signatures_differ a.partial b.partial) _ later; script = or_left (script_odds a b) _ last; witness = or_right (script_odds a b) _ last }
+    record {
+      spent = or_left (output_odds a b) _ h;
+      signatures = or_left (signatures_differ a.partial b.partial) _ later;
+      script = or_left
+          (script_odds a b) _ last;
+      witness = or_right (script_odds a b) _ last;
+    }
 
 pub differ_back : (a b : PsbtInput) → signs_ascend a ≡ true → signs_ascend b ≡ true → inputs_differ a b ≡ inputs_differ b a
 differ_back a b h k =
@@ -121,7 +127,8 @@ joined_back a b h k calm =
 -- ---- records of one key with different values
 
 -- what is spelled the same is the same
-spelled_once : {A : Type 0} (spell : A → List ℕ) (read : List ℕ → Option A) (x y : A) → read (spell x) ≡ some x → read (spell y) ≡ some y → spell x ≡ spell y → x ≡ y
+spelled_once : {A : Type 0} (spell : A → List ℕ) (read : List ℕ → Option A) (x y : A) → read (spell x) ≡ some x → read (spell y) ≡ some y
+    → spell x ≡ spell y → x ≡ y
 spelled_once spell read x y h k e = some_is x y (sym h ∙ ap read e ∙ k)
 
 of_some : {A : Type 0} (Fits : A → Type 0) (o : Option A) (x : A) → o ≡ some x → IfSome o Fits → Fits x
@@ -137,26 +144,42 @@ part_apart {A} key spell read Fits a b o q ea eb again h k both = record {
   other = spell both.other;
   here = ea ∙ ap (λ (z : Option A). option_map spell z) both.here;
   there = eb ∙ ap (λ (z : Option A). option_map spell z) both.there;
-  differ = λ e. both.differ (spelled_once spell read both.one both.other (again both.one (of_some Fits o both.one both.here h)) (again both.other (of_some Fits q both.other both.there k)) e);
+  differ = λ e. both.differ (spelled_once spell read both.one both.other (again both.one (of_some Fits o both.one both.here h))
+      (again both.other (of_some Fits q both.other both.there k)) e);
 }
 
 script_apart : (a b : PsbtInput) → Both a.script b.script → AreApart a b
-script_apart a b both = record { key = 5 ∷ []; one = both.one; other = both.other; here = found_script a ∙ both.here; there = found_script b ∙ both.there; differ = both.differ }
+script_apart a b both =
+    record { key = 5 ∷ []; one = both.one; other = both.other; here = found_script a ∙ both.here; there = found_script b ∙ both.there; differ = both.differ }
 
 pub differ_are_apart : (a b : PsbtInput) → IsKnown a → IsKnown b → signs_ascend a ≡ true → inputs_differ a b ≡ true → AreApart a b
 differ_are_apart a b h k asc d = by_spent (output_odds a b) refl (signatures_differ a.partial b.partial) refl (script_odds a b) refl d
   where
-    by_spent : (p : Bool) → output_odds a b ≡ p → (q : Bool) → signatures_differ a.partial b.partial ≡ q → (r : Bool) → script_odds a b ≡ r → (p || (q || (r || witness_odds a b))) ≡ true → AreApart a b
-    by_spent true e q f r g t = part_apart (1 ∷ []) output_bytes output_of IsOutput a b a.spent b.spent (found_spent a) (found_spent b) output_again h.spent k.spent (odds_both same_output of_outputs a.spent b.spent e)
+    by_spent : (p : Bool) → output_odds a b ≡ p → (q : Bool) → signatures_differ a.partial b.partial ≡ q → (r : Bool) → script_odds a b ≡ r
+        → (p || (q || (r || witness_odds a b))) ≡ true → AreApart a b
+    by_spent true e q f r g t = part_apart (1 ∷ []) output_bytes output_of IsOutput a b a.spent b.spent (found_spent a) (found_spent b)
+        output_again h.spent k.spent (odds_both same_output of_outputs a.spent b.spent e)
     by_spent false e true f r g t =
         let s = differ_apart a.partial b.partial asc f in
-        record { key = 2 ∷ s.key; one = s.one; other = s.other; here = found_signature s.key a ∙ s.in_here; there = found_signature s.key b ∙ s.in_there; differ = s.differ }
+        record {
+          key = 2 ∷ s.key;
+          one = s.one;
+          other = s.other;
+          here = found_signature s.key a ∙ s.in_here;
+          there = found_signature s.key b
+              ∙ s.in_there;
+          differ = s.differ;
+        }
     by_spent false e false f true g t = script_apart a b (odds_both bytes_eq of_bytes a.script b.script g)
-    by_spent false e false f false g t = part_apart (8 ∷ []) witness_bytes witness_of IsStack a b a.witness b.witness (found_witness a) (found_witness b) witness_again h.witness k.witness (odds_both (pointwise bytes_eq) (of_lists bytes_eq of_bytes) a.witness b.witness t)
+    by_spent false e false f false g t =
+        part_apart (8 ∷ []) witness_bytes witness_of IsStack a b a.witness b.witness (found_witness a) (found_witness b) witness_again
+        h.witness k.witness (odds_both (pointwise bytes_eq) (of_lists bytes_eq of_bytes) a.witness b.witness t)
 
 -- what is found of a part that isn't at odds is the same
-calm_part : {A : Type 0} (f : A → A → Bool) → IsTest f → (spell : A → List ℕ) (o q : Option A) (v w : List ℕ) → are_at_odds f o q ≡ false → option_map spell o ≡ some v → option_map spell q ≡ some w → v ≡ w
-calm_part f t spell (Some x) (Some y) v w h e g = sym (some_is (spell x) v e) ∙ ap spell (calm_same f t (Some x) (Some y) x y h refl refl) ∙ some_is (spell y) w g
+calm_part : {A : Type 0} (f : A → A → Bool) → IsTest f → (spell : A → List ℕ) (o q : Option A) (v w : List ℕ) → are_at_odds f o q ≡ false
+    → option_map spell o ≡ some v → option_map spell q ≡ some w → v ≡ w
+calm_part f t spell (Some x) (Some y) v w h e g =
+    sym (some_is (spell x) v e) ∙ ap spell (calm_same f t (Some x) (Some y) x y h refl refl) ∙ some_is (spell y) w g
 calm_part f t spell (Some x) None v w h e g = absurd (none_some w g)
 calm_part f t spell None q v w h e g = absurd (none_some v e)
 
@@ -175,11 +198,16 @@ calm_not_apart a b calm apart = by_part (part_of apart.key)
     there_at key e = subst (λ (x : List ℕ). look_up x (input_records b) ≡ some apart.other) (sym e) apart.there
 
     by_part : Part_of apart.key → ⊥
-    by_part (spent e) = apart.differ (calm_part same_output of_outputs output_bytes a.spent b.spent apart.one apart.other (are_calm a b calm).spent (sym (found_spent a) ∙ here_at (1 ∷ []) e) (sym (found_spent b) ∙ there_at (1 ∷ []) e))
-    by_part (signature k e) = apart.differ (agree k a.partial b.partial apart.one apart.other (are_calm a b calm).signatures (sym (found_signature k a) ∙ here_at (2 ∷ k) e) (sym (found_signature k b) ∙ there_at (2 ∷ k) e))
-    by_part (all e) = apart.differ (calm_all a.all b.all apart.one apart.other (sym (found_all a) ∙ here_at (3 ∷ []) e) (sym (found_all b) ∙ there_at (3 ∷ []) e))
-    by_part (script e) = apart.differ (calm_same bytes_eq of_bytes a.script b.script apart.one apart.other (are_calm a b calm).script (sym (found_script a) ∙ here_at (5 ∷ []) e) (sym (found_script b) ∙ there_at (5 ∷ []) e))
-    by_part (witness e) = apart.differ (calm_part (pointwise bytes_eq) (of_lists bytes_eq of_bytes) witness_bytes a.witness b.witness apart.one apart.other (are_calm a b calm).witness (sym (found_witness a) ∙ here_at (8 ∷ []) e) (sym (found_witness b) ∙ there_at (8 ∷ []) e))
+    by_part (spent e) = apart.differ (calm_part same_output of_outputs output_bytes a.spent b.spent apart.one apart.other
+        (are_calm a b calm).spent (sym (found_spent a) ∙ here_at (1 ∷ []) e) (sym (found_spent b) ∙ there_at (1 ∷ []) e))
+    by_part (signature k e) = apart.differ (agree k a.partial b.partial apart.one apart.other (are_calm a b calm).signatures
+        (sym (found_signature k a) ∙ here_at (2 ∷ k) e) (sym (found_signature k b) ∙ there_at (2 ∷ k) e))
+    by_part (all e) =
+        apart.differ (calm_all a.all b.all apart.one apart.other (sym (found_all a) ∙ here_at (3 ∷ []) e) (sym (found_all b) ∙ there_at (3 ∷ []) e))
+    by_part (script e) = apart.differ (calm_same bytes_eq of_bytes a.script b.script apart.one apart.other (are_calm a b calm).script
+        (sym (found_script a) ∙ here_at (5 ∷ []) e) (sym (found_script b) ∙ there_at (5 ∷ []) e))
+    by_part (witness e) = apart.differ (calm_part (pointwise bytes_eq) (of_lists bytes_eq of_bytes) witness_bytes a.witness b.witness
+        apart.one apart.other (are_calm a b calm).witness (sym (found_witness a) ∙ here_at (8 ∷ []) e) (sym (found_witness b) ∙ there_at (8 ∷ []) e))
     by_part (foreign f) = none_some apart.one (sym (found_none apart.key a f) ∙ apart.here)
 
 -- ---- the records of both
@@ -200,8 +228,10 @@ has_both a b key = by_part (part_of key)
   where
     by_part : Part_of key → Found_both a b key
     by_part (spent e) = subst (Found_both a b) e (found_spent (input_joined a b) ∙ rw (found_spent a, found_spent b) (map_or output_bytes a.spent b.spent))
-    by_part (signature k e) = subst (Found_both a b) e (found_signature k (input_joined a b) ∙ rw (found_signature k a, found_signature k b) (joined_found k a.partial b.partial))
+    by_part (signature k e) =
+        subst (Found_both a b) e (found_signature k (input_joined a b) ∙ rw (found_signature k a, found_signature k b) (joined_found k a.partial b.partial))
     by_part (all e) = subst (Found_both a b) e (found_all (input_joined a b) ∙ rw (found_all a, found_all b) (all_or a.all b.all))
     by_part (script e) = subst (Found_both a b) e (found_script (input_joined a b) ∙ rw (found_script a, found_script b) refl)
-    by_part (witness e) = subst (Found_both a b) e (found_witness (input_joined a b) ∙ rw (found_witness a, found_witness b) (map_or witness_bytes a.witness b.witness))
+    by_part (witness e) =
+        subst (Found_both a b) e (found_witness (input_joined a b) ∙ rw (found_witness a, found_witness b) (map_or witness_bytes a.witness b.witness))
     by_part (foreign f) = found_none key (input_joined a b) f ∙ rw (found_none key a f, found_none key b f) refl

@@ -46,11 +46,11 @@ inputs_said (m ∷ maps) inputs h e =
     let first : signs_ascend o.first ≡ true = subst (λ (i : PsbtInput). signs_ascend i ≡ true) g.same (signed m h.0.apart).ascend in
     subst (Inputs_said (m ∷ maps)) (sym o.all) (record { count = ap suc later.count; ascend = and_is _ _ first later.ascend })
 
-all_front : (P : List Pairing → Type 0) (xs ys : List (List Pairing)) → AllByRecursion P (xs ++ ys) → AllByRecursion P xs
-all_front P [] ys h = tt
-all_front P (x ∷ xs) ys h = (h.0, all_front P xs ys h.1)
+all_prefix : (P : List Pairing → Type 0) (xs ys : List (List Pairing)) → AllByRecursion P (xs ++ ys) → AllByRecursion P xs
+all_prefix P [] ys h = tt
+all_prefix P (x ∷ xs) ys h = (h.0, all_prefix P xs ys h.1)
 
 pub spelled_is_psbt : (bytes : List ℕ) (p : Psbt) → Spells bytes p → is_psbt p ≡ true
 spelled_is_psbt bytes p s =
-    let inputs = inputs_said s.inputs p.inputs (all_front IsMap s.inputs s.outputs s.maps.1) s.said in
+    let inputs = inputs_said s.inputs p.inputs (all_prefix IsMap s.inputs s.outputs s.maps.1) s.said in
     and_is _ _ (and_is _ _ (global_unsigned s.global p.tx s.tx) (eq-eqb (length p.inputs) (length p.tx.inputs) (inputs.count ∙ s.each_input))) inputs.ascend

@@ -106,8 +106,8 @@ module _ (hash : List ℕ → List ℕ) (fine : HashesBytes hash) (book : List P
 
   -- ---- inputs
 
-  module _ (draft : Unsigned) where
-    input_known : (spent : Spent) (labels : List Label) → IsSpent spent → IsKnown (signed_input hash book draft spent labels)
+  module _ (pending : Unsigned) where
+    input_known : (spent : Spent) (labels : List Label) → IsSpent spent → IsKnown (signed_input hash book pending spent labels)
     input_known spent labels h = record {
       spent = record {
         value = h.value;
@@ -122,21 +122,21 @@ module _ (hash : List ℕ → List ℕ) (fine : HashesBytes hash) (book : List P
     }
 
     inputs_known : (spends : List Spent) (signers : List (List Label)) → AllByRecursion IsSpent spends
-        → AllByRecursion IsKnown (signed_inputs hash book draft spends signers)
+        → AllByRecursion IsKnown (signed_inputs hash book pending spends signers)
     inputs_known [] signers h = tt
     inputs_known (spent ∷ rest) [] h = tt
     inputs_known (spent ∷ rest) (labels ∷ others) h = (input_known spent labels h.0, inputs_known rest others h.1)
 
     inputs_ascend : (spends : List Spent) (signers : List (List Label))
         → AllByRecursion (λ labels. are_different (map (key_of hash) labels) ≡ true) signers
-        → list_all signs_ascend (signed_inputs hash book draft spends signers) ≡ true
+        → list_all signs_ascend (signed_inputs hash book pending spends signers) ≡ true
     inputs_ascend [] signers h = refl
     inputs_ascend (spent ∷ rest) [] h = refl
     inputs_ascend (spent ∷ rest) (labels ∷ others) h =
-        and_is _ _ (there_ascend labels (digest_of_spent hash (tx_of draft) spent) h.0).ascend (inputs_ascend rest others h.1)
+        and_is _ _ (there_ascend labels (digest_of_spent hash (tx_of pending) spent) h.0).ascend (inputs_ascend rest others h.1)
 
     inputs_count : (spends : List Spent) (signers : List (List Label)) → length signers ≡ length spends
-        → length (signed_inputs hash book draft spends signers) ≡ length (map input_of spends)
+        → length (signed_inputs hash book pending spends signers) ≡ length (map input_of spends)
     inputs_count [] signers e = refl
     inputs_count (spent ∷ rest) [] e = absurd (omega (arith, e))
     inputs_count (spent ∷ rest) (labels ∷ others) e = ap suc (inputs_count rest others (omega (arith, e)))
@@ -147,7 +147,7 @@ module _ (hash : List ℕ → List ℕ) (fine : HashesBytes hash) (book : List P
 
   listed_at_once : (l : Listed) → IsListed hash l → IsFitting (listed_psbt hash book l)
   listed_at_once l h =
-      let d = l.draft in
+      let d = l.pending in
       let some : not (eqb (length (map input_of d.spends)) 0) ≡ true =
       not_no _ (ne_eqb (length (map input_of d.spends)) 0 (λ e. absurd (omega (arith, e, h.tx.some)))) in
       let unsigned : is_unsigned (tx_of d) ≡ true = and_is _ _ some (all_bare d.spends) in

@@ -85,7 +85,8 @@ map_parts r rs rest = rw (flat_map-cons pairing_bytes r rs) (simp append_assoc)
 sized_begins : (text rest : List ℕ) (c : Count_begins (length text)) → sized text ++ rest ≡ c.head ∷ ((c.tail ++ text) ++ rest)
 sized_begins text rest c = ap (λ (l : List ℕ). (l ++ text) ++ rest) c.is
 
-read_again : (records : List Pairing) (n : ℕ) (rest : List ℕ) → AllByRecursion IsPairing records → length records < n → records_at n (map_bytes records ++ rest) ≡ some (records, rest)
+read_again : (records : List Pairing) (n : ℕ) (rest : List ℕ) → AllByRecursion IsPairing records → length records < n
+    → records_at n (map_bytes records ++ rest) ≡ some (records, rest)
 read_again records zero rest h lt = absurd (omega arith)
 read_again [] (suc n) rest h lt = end_at n 0 rest refl
 read_again (r ∷ rs) (suc n) rest h lt =
@@ -110,7 +111,8 @@ map_again records rest h =
     let many : length records < length (map_bytes records ++ rest) = omega (arith, length-append (map_bytes records) rest, enough records) in
     rw (read_again records (length (map_bytes records ++ rest)) rest h.each many, h.apart) refl
 
-pub maps_again : (maps : List (List Pairing)) (rest : List ℕ) → AllByRecursion IsMap maps → maps_at (length maps) (flat_map map_bytes maps ++ rest) ≡ some (maps, rest)
+pub maps_again : (maps : List (List Pairing)) (rest : List ℕ) → AllByRecursion IsMap maps
+    → maps_at (length maps) (flat_map map_bytes maps ++ rest) ≡ some (maps, rest)
 unfolding maps_at
 maps_again [] rest h = refl
 maps_again (m ∷ ms) rest h =
@@ -119,13 +121,13 @@ maps_again (m ∷ ms) rest h =
 
 -- ---- what is read is spelled
 
--- records were read from the front, and the rest is left
+-- records were read from the prefix, and the rest is left
 pub record Records_read (bytes : List ℕ) (records : List Pairing) (rest : List ℕ) : Type 0 where
   pub parts : bytes ≡ map_bytes records ++ rest
   pub each : AllByRecursion IsPairing records
   pub fits : IsBytes rest
 
--- a string that was read from the front
+-- a string that was read from the prefix
 record String_read (bytes text rest : List ℕ) : Type 0 where
   parts : bytes ≡ sized text ++ rest
   is : IsString text
@@ -151,8 +153,10 @@ key_some : (text rest bytes : List ℕ) (b : ℕ) → eqb b 0 ≡ false → b �
 key_some text rest bytes b h e true z = absurd (eqb-false b 0 h (empty_begins text rest bytes b (nil_from_length text (eqb-true _ _ z)) e))
 key_some text rest bytes b h e false z = refl
 
-more_read : (n b : ℕ) (bytes : List ℕ) (records : List Pairing) (rest : List ℕ) → IsBytes (b ∷ bytes) → eqb b 0 ≡ false → one_more n (b ∷ bytes) ≡ some (records, rest)
-    → ((after : List ℕ) (rs : List Pairing) → IsBytes after → records_at n after ≡ some (rs, rest) → Records_read after rs rest) → Records_read (b ∷ bytes) records rest
+more_read : (n b : ℕ) (bytes : List ℕ) (records : List Pairing) (rest : List ℕ) → IsBytes (b ∷ bytes) → eqb b 0 ≡ false
+    → one_more n (b ∷ bytes) ≡ some (records, rest)
+    → ((after : List ℕ) (rs : List Pairing) → IsBytes after → records_at n after ≡ some (rs, rest) → Records_read after rs rest)
+    → Records_read (b ∷ bytes) records rest
 more_read n b bytes records rest fits h e later =
     let k = came (taken (string_at (b ∷ bytes))) (behind_key n) (records, rest) e in
     let key = string_read (b ∷ bytes) k.first fits k.is in
@@ -165,18 +169,29 @@ more_read n b bytes records rest fits h e later =
     let others = later (v.first.1) (o.first.0) value.fits (o.is ∙ ap (λ (l : List ℕ). some (o.first.0, l)) left) in
     let r : Pairing = (k.first.0, v.first.0) in
     subst (λ (l : List Pairing). Records_read (b ∷ bytes) l rest) same (record {
-      parts = key.parts ∙ ap (λ (l : List ℕ). sized (k.first.0) ++ l) (value.parts ∙ ap (λ (l : List ℕ). sized (v.first.0) ++ l) others.parts) ∙ sym (map_parts r (o.first.0) rest);
-      each = (record { some = key_some (k.first.0) (k.first.1) bytes b h key.parts (eqb (length (k.first.0)) 0) refl; key = key.is; value = value.is }, others.each);
+      parts = key.parts ∙ ap (λ (l : List ℕ). sized (k.first.0) ++ l)
+          (value.parts ∙ ap (λ (l : List ℕ). sized (v.first.0) ++ l) others.parts) ∙ sym (map_parts r (o.first.0) rest);
+      each = (
+        record {
+          some = key_some (k.first.0) (k.first.1) bytes b h key.parts (eqb (length (k.first.0)) 0)
+              refl;
+          key = key.is;
+          value = value.is;
+        },
+        others.each,
+      );
       fits = others.fits;
     })
 
-records_read : (n : ℕ) (bytes : List ℕ) (records : List Pairing) (rest : List ℕ) → IsBytes bytes → records_at n bytes ≡ some (records, rest) → Records_read bytes records rest
+records_read : (n : ℕ) (bytes : List ℕ) (records : List Pairing) (rest : List ℕ) → IsBytes bytes → records_at n bytes ≡ some (records, rest)
+    → Records_read bytes records rest
 records_read zero bytes records rest fits e = absurd (none_some _ (sym (no_room bytes) ∙ e))
 records_read (suc n) [] records rest fits e = absurd (none_some _ (sym (no_end n) ∙ e))
 records_read (suc n) (b ∷ bytes) records rest fits e =
     by_zero (eqb b 0) refl (λ after rs f h. records_read n after rs rest f h)
   where
-    by_zero : (t : Bool) → eqb b 0 ≡ t → ((after : List ℕ) (rs : List Pairing) → IsBytes after → records_at n after ≡ some (rs, rest) → Records_read after rs rest)
+    by_zero : (t : Bool) → eqb b 0 ≡ t → ((after : List ℕ) (rs : List Pairing) → IsBytes after → records_at n after ≡ some (rs, rest)
+        → Records_read after rs rest)
         → Records_read (b ∷ bytes) records rest
     by_zero true z later =
         let all = some_is ([], bytes) (records, rest) (sym (end_at n b bytes z) ∙ e) in
@@ -187,14 +202,14 @@ records_read (suc n) (b ∷ bytes) records rest fits e =
         subst (λ (l : List Pairing). Records_read (b ∷ bytes) l rest) same r
     by_zero false z later = more_read n b bytes records rest fits z (sym (more_at n b bytes z) ∙ e) later
 
--- maps were read from the front, and the rest is left
+-- maps were read from the prefix, and the rest is left
 pub record Maps_read (n : ℕ) (bytes : List ℕ) (maps : List (List Pairing)) (rest : List ℕ) : Type 0 where
   pub count : length maps ≡ n
   pub parts : bytes ≡ flat_map map_bytes maps ++ rest
   pub each : AllByRecursion IsMap maps
   pub fits : IsBytes rest
 
--- a map was read from the front, and the rest is left
+-- a map was read from the prefix, and the rest is left
 pub record Map_read (bytes : List ℕ) (records : List Pairing) (rest : List ℕ) : Type 0 where
   pub parts : bytes ≡ map_bytes records ++ rest
   pub is : IsMap records
@@ -237,7 +252,8 @@ maps_read (suc n) bytes x fits e =
     let others = maps_read n (c.first.1) o.first f.fits o.is in
     let all = some_is (c.first.0 ∷ o.first.0, o.first.1) x o.then' in
     let parts : bytes ≡ flat_map map_bytes (c.first.0 ∷ o.first.0) ++ o.first.1 =
-    f.parts ∙ ap (λ (l : List ℕ). map_bytes (c.first.0) ++ l) others.parts ∙ sym (append_assoc (map_bytes (c.first.0)) (flat_map map_bytes (o.first.0)) (o.first.1))
+    f.parts ∙ ap (λ (l : List ℕ). map_bytes (c.first.0) ++ l) others.parts
+    ∙ sym (append_assoc (map_bytes (c.first.0)) (flat_map map_bytes (o.first.0)) (o.first.1))
     ∙ ap (λ (l : List ℕ). l ++ o.first.1) (sym (flat_map-cons map_bytes (c.first.0) (o.first.0))) in
     let m : Maps_read (suc n) bytes (c.first.0 ∷ o.first.0) (o.first.1) = record { count = ap suc others.count; parts = parts; each = (f.is, others.each); fits = others.fits } in
     subst (λ (y : List (List Pairing) × List ℕ). Maps_read (suc n) bytes (y.0) (y.1)) all m

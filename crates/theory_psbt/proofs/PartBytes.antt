@@ -49,7 +49,8 @@ compact_bytes n = by_form (form_of n)
 sized_bytes : (text : List ℕ) → IsString text → IsBytes (sized text)
 sized_bytes text h = IsBytes-append (compact (length text)) text (compact_bytes (length text)) h.bytes
 
-all_bytes : {A : Type 0} (f : A → List ℕ) (Fits : A → Type 0) (xs : List A) → ((x : A) → Fits x → IsBytes (f x)) → AllByRecursion Fits xs → IsBytes (flat_map f xs)
+all_bytes : {A : Type 0} (f : A → List ℕ) (Fits : A → Type 0) (xs : List A) → ((x : A) → Fits x → IsBytes (f x)) → AllByRecursion Fits xs
+    → IsBytes (flat_map f xs)
 all_bytes f Fits [] each h = bytes_none
 all_bytes f Fits (x ∷ xs) each h = subst IsBytes (sym (flat_map-cons f x xs)) (IsBytes-append (f x) (flat_map f xs) (each x h.0) (all_bytes f Fits xs each h.1))
 
@@ -57,12 +58,14 @@ pub output_is_bytes : (o : TxOut) → IsOutput o → IsBytes (output_bytes o)
 output_is_bytes o h = IsBytes-append (long_word o.value) (sized o.script) (long_word_bytes o.value) (sized_bytes o.script h.script)
 
 pub witness_is_bytes : (items : List (List ℕ)) → IsStack items → IsBytes (witness_bytes items)
-witness_is_bytes items h = IsBytes-append (compact (length items)) (flat_map sized items) (compact_bytes (length items)) (all_bytes sized IsString items sized_bytes h.each)
+witness_is_bytes items h =
+    IsBytes-append (compact (length items)) (flat_map sized items) (compact_bytes (length items)) (all_bytes sized IsString items sized_bytes h.each)
 
 input_is_bytes : (i : TxIn) → IsInput i → IsBytes (input_bytes i)
 input_is_bytes i h =
     IsBytes-append (place_bytes i.prev ++ sized i.script_sig) (word i.sequence)
-    (IsBytes-append (place_bytes i.prev) (sized i.script_sig) (IsBytes-append i.prev.txid (word i.prev.vout) h.prev.txid (word_bytes i.prev.vout)) (sized_bytes i.script_sig h.script_sig))
+    (IsBytes-append (place_bytes i.prev) (sized i.script_sig)
+    (IsBytes-append i.prev.txid (word i.prev.vout) h.prev.txid (word_bytes i.prev.vout)) (sized_bytes i.script_sig h.script_sig))
     (word_bytes i.sequence)
 
 pub stripped_is_bytes : (tx : Tx) → IsTransaction tx → IsBytes (stripped tx)
@@ -71,8 +74,10 @@ stripped_is_bytes tx h =
     IsBytes-append (word tx.version ++ inputs_bytes tx.inputs ++ outputs_bytes tx.outputs) (word tx.lock)
     (IsBytes-append (word tx.version ++ inputs_bytes tx.inputs) (outputs_bytes tx.outputs)
     (IsBytes-append (word tx.version) (inputs_bytes tx.inputs) (word_bytes tx.version)
-    (IsBytes-append (compact (length tx.inputs)) (flat_map input_bytes tx.inputs) (compact_bytes (length tx.inputs)) (all_bytes input_bytes IsInput tx.inputs input_is_bytes h.inputs)))
-    (IsBytes-append (compact (length tx.outputs)) (flat_map output_bytes tx.outputs) (compact_bytes (length tx.outputs)) (all_bytes output_bytes IsOutput tx.outputs output_is_bytes h.outputs)))
+    (IsBytes-append (compact (length tx.inputs)) (flat_map input_bytes tx.inputs) (compact_bytes (length tx.inputs))
+    (all_bytes input_bytes IsInput tx.inputs input_is_bytes h.inputs)))
+    (IsBytes-append (compact (length tx.outputs)) (flat_map output_bytes tx.outputs) (compact_bytes (length tx.outputs))
+    (all_bytes output_bytes IsOutput tx.outputs output_is_bytes h.outputs)))
     (word_bytes tx.lock)
 
 -- ---- they are read again
@@ -84,8 +89,8 @@ output_again o h =
 
 stack_to : (text : List ℕ) (items : List (List ℕ)) → Seq (Count any) (Are sized IsString) text items → Is witness_bytes IsStack text items
 stack_to text items s = record {
-  same = s.parts ∙ rw (s.front.bytes, s.back.same, s.back.len) refl;
-  fits = record { few = omega (arith, s.back.len, s.front.most); each = s.back.each };
+  same = s.parts ∙ rw (s.prefix.bytes, s.back.same, s.back.len) refl;
+  fits = record { few = omega (arith, s.back.len, s.prefix.most); each = s.back.each };
 }
 
 stack_from : (text : List ℕ) (items : List (List ℕ)) → Is witness_bytes IsStack text items → Seq (Count any) (Are sized IsString) text items
@@ -94,14 +99,15 @@ stack_from text items h = record {
   second = flat_map sized items;
   value = length items;
   parts = h.same;
-  front = record { bytes = refl; most = h.fits.few; head = λ b rest e. refl };
+  prefix = record { bytes = refl; most = h.fits.few; head = λ b rest e. refl };
   back = record { same = refl; len = refl; each = h.fits.each };
 }
 
 pub the_stack : Exact (Is witness_bytes IsStack) (witness_at any)
 unfolding witness_at
 the_stack = transfer (Seq (Count any) (Are sized IsString)) (Is witness_bytes IsStack) (witness_at any) stack_to stack_from
-    (bind (Count any) (Are sized IsString) (compact_at any) (many string_at) (count any 0 refl (lit< tt)) (λ n t l. the_many sized IsString string_at the_string n))
+    (bind (Count any) (Are sized IsString) (compact_at any) (many string_at) (count any 0 refl (lit< tt))
+    (λ n t l. the_many sized IsString string_at the_string n))
 
 pub witness_again : (items : List (List ℕ)) → IsStack items → witness_of (witness_bytes items) ≡ some items
 witness_again items h =

@@ -140,15 +140,15 @@ inputs_known (m ∷ maps) inputs h e =
 
 -- ---- the whole
 
-all_front : (P : List Pairing → Type 0) (xs ys : List (List Pairing)) → AllByRecursion P (xs ++ ys) → AllByRecursion P xs
-all_front P [] ys h = tt
-all_front P (x ∷ xs) ys h = (h.0, all_front P xs ys h.1)
+all_prefix : (P : List Pairing → Type 0) (xs ys : List (List Pairing)) → AllByRecursion P (xs ++ ys) → AllByRecursion P xs
+all_prefix P [] ys h = tt
+all_prefix P (x ∷ xs) ys h = (h.0, all_prefix P xs ys h.1)
 
 pub spelled_fits : (bytes : List ℕ) (p : Psbt) → Spells bytes p → IsFitting p
 spelled_fits bytes p s = record {
   is = spelled_is_psbt bytes p s;
   tx = global_fit s.global p.tx s.maps.0 s.tx;
-  inputs = inputs_known s.inputs p.inputs (all_front IsMap s.inputs s.outputs s.maps.1) s.said;
+  inputs = inputs_known s.inputs p.inputs (all_prefix IsMap s.inputs s.outputs s.maps.1) s.said;
 }
 
 pub read_fits : (bytes : List ℕ) (p : Psbt) → IsBytes bytes → psbt_of bytes ≡ some p → IsFitting p

@@ -41,9 +41,9 @@ steps : (bytes : List ℕ) → psbt_of bytes ≡ (behind magic bytes >>= behind_
 unfolding psbt_of
 steps bytes = refl
 
-all_front : (P : List Pairing → Type 0) (xs ys : List (List Pairing)) → AllByRecursion P (xs ++ ys) → AllByRecursion P xs
-all_front P [] ys h = tt
-all_front P (x ∷ xs) ys h = (h.0, all_front P xs ys h.1)
+all_prefix : (P : List Pairing → Type 0) (xs ys : List (List Pairing)) → AllByRecursion P (xs ++ ys) → AllByRecursion P xs
+all_prefix P [] ys h = tt
+all_prefix P (x ∷ xs) ys h = (h.0, all_prefix P xs ys h.1)
 
 all_back : (P : List Pairing → Type 0) (xs ys : List (List Pairing)) → AllByRecursion P (xs ++ ys) → AllByRecursion P ys
 all_back P [] ys h = h
@@ -60,28 +60,29 @@ spelled_is_read bytes p s =
     let last : List ℕ = flat_map map_bytes s.outputs in
     let inner : List ℕ = flat_map map_bytes s.inputs ++ last in
     let global : map_at (map_bytes s.global ++ inner) ≡ some (s.global, inner) = map_again s.global inner s.maps.0 in
-    let inputs : maps_at (length p.tx.inputs) inner ≡ some (s.inputs, last) = ap (λ (n : ℕ). maps_at n inner) (sym s.each_input) ∙ maps_again s.inputs last (all_front IsMap s.inputs s.outputs s.maps.1) in
+    let inputs : maps_at (length p.tx.inputs) inner ≡ some (s.inputs, last) = ap (λ (n : ℕ). maps_at n inner) (sym s.each_input) ∙ maps_again s.inputs last (all_prefix IsMap s.inputs s.outputs s.maps.1) in
     let outputs : maps_at (length p.tx.outputs) last ≡ some (s.outputs, []) =
     ap (λ (n : ℕ). maps_at n last) (sym s.each_output) ∙ ap (maps_at (length s.outputs)) (sym (append-nil last)) ∙ maps_again s.outputs [] (all_back IsMap s.inputs s.outputs s.maps.1) in
     steps bytes ∙ rw (s.same, global, s.tx, inputs, s.said, outputs) refl
 
 -- ---- what is read is spelled
 
-behind_is : (front bytes rest : List ℕ) → behind front bytes ≡ some rest → bytes ≡ front ++ rest
+behind_is : (prefix bytes rest : List ℕ) → behind prefix bytes ≡ some rest → bytes ≡ prefix ++ rest
 behind_is [] bytes rest h = some_is bytes rest h
 behind_is (x ∷ xs) [] rest h = absurd (none_some rest h)
 behind_is (x ∷ xs) (b ∷ bytes) rest h = by_byte (eqb x b) refl h (behind_is xs bytes rest)
   where
-    by_byte : (t : Bool) → eqb x b ≡ t → (if t then behind xs bytes else None) ≡ some rest → (behind xs bytes ≡ some rest → bytes ≡ xs ++ rest) → b ∷ bytes ≡ x ∷ (xs ++ rest)
+    by_byte : (t : Bool) → eqb x b ≡ t → (if t then behind xs bytes else None) ≡ some rest
+        → (behind xs bytes ≡ some rest → bytes ≡ xs ++ rest) → b ∷ bytes ≡ x ∷ (xs ++ rest)
     by_byte true e k later = let same = eqb-true x b e in let tails = later k in cc
     by_byte false e k later = absurd (none_some rest k)
 
 pub read_is_spelled : (bytes : List ℕ) (p : Psbt) → IsBytes bytes → psbt_of bytes ≡ some p → Spells bytes p
 read_is_spelled bytes p fits e =
     let m = came (behind magic bytes) behind_magic p (sym (steps bytes) ∙ e) in
-    let front : bytes ≡ magic ++ m.first = behind_is magic bytes m.first m.is in
+    let prefix : bytes ≡ magic ++ m.first = behind_is magic bytes m.first m.is in
     let g = came (map_at m.first) behind_global p m.then' in
-    let global = map_read m.first g.first (IsBytes-back magic m.first (subst IsBytes front fits)) g.is in
+    let global = map_read m.first g.first (IsBytes-back magic m.first (subst IsBytes prefix fits)) g.is in
     let t = came (global_of (g.first.0)) (behind_tx (g.first.1)) p g.then' in
     let i = came (maps_at (length t.first.inputs) (g.first.1)) (behind_inputs t.first) p t.then' in
     let inputs = maps_read (length t.first.inputs) (g.first.1) i.first global.fits i.is in
@@ -95,7 +96,8 @@ read_is_spelled bytes p fits e =
       global = g.first.0;
       inputs = i.first.0;
       outputs = o.first.0;
-      same = front ∙ ap (λ (l : List ℕ). magic ++ l) (global.parts ∙ ap (λ (l : List ℕ). map_bytes (g.first.0) ++ l) (inputs.parts ∙ ap (λ (l : List ℕ). flat_map map_bytes (i.first.0) ++ l) last));
+      same = prefix ∙ ap (λ (l : List ℕ). magic ++ l)
+          (global.parts ∙ ap (λ (l : List ℕ). map_bytes (g.first.0) ++ l) (inputs.parts ∙ ap (λ (l : List ℕ). flat_map map_bytes (i.first.0) ++ l) last));
       maps = (global.is, all_joined IsMap (i.first.0) (o.first.0) inputs.each outputs.each);
       tx = t.is;
       each_input = inputs.count;

@@ -63,7 +63,8 @@ look_joined key (x ∷ xs) ys = by_key (bytes_eq (x.0) key) (look_joined key xs 
     by_key true later = refl
     by_key false later = later
 
-look_part : {A : Type 0} (t : ℕ) (spell : A → List ℕ) (o : Option A) → bytes_eq (t ∷ []) (t ∷ []) ≡ true → look_up (t ∷ []) (part t spell o) ≡ option_map spell o
+look_part : {A : Type 0} (t : ℕ) (spell : A → List ℕ) (o : Option A) → bytes_eq (t ∷ []) (t ∷ []) ≡ true → look_up (t ∷ []) (part t spell o)
+    ≡ option_map spell o
 look_part t spell (Some a) h = rw h refl
 look_part t spell None h = refl
 
@@ -86,7 +87,8 @@ look_signature : (key : List ℕ) (ps : List Pairing) → look_up (2 ∷ key) (m
 look_signature key [] = refl
 look_signature key (p ∷ ps) = ap (λ (o : Option (List ℕ)). if bytes_eq (p.0) key then Some (p.1) else o) (look_signature key ps)
 
-no_signature : (key : List ℕ) (ps : List Pairing) → ((k : List ℕ) → bytes_eq (2 ∷ k) key ≡ false) → look_up key (map {B = Pairing} (λ p. (2 ∷ p.0, p.1)) ps) ≡ None
+no_signature : (key : List ℕ) (ps : List Pairing) → ((k : List ℕ) → bytes_eq (2 ∷ k) key ≡ false)
+    → look_up key (map {B = Pairing} (λ p. (2 ∷ p.0, p.1)) ps) ≡ None
 no_signature key [] h = refl
 no_signature key (p ∷ ps) h = rw (h (p.0)) (no_signature key ps h)
 
@@ -113,27 +115,62 @@ as_is None = refl
 pub found_spent : (i : PsbtInput) → look_up (1 ∷ []) (input_records i) ≡ option_map output_bytes i.spent
 found_spent i =
     found_parts (1 ∷ []) i
-    ∙ rw (look_part 1 output_bytes i.spent refl, no_signature (1 ∷ []) i.partial (λ k. refl), look_other_all (1 ∷ []) i.all refl, look_other_part (1 ∷ []) 5 as_it_is i.script refl, look_other_part (1 ∷ []) 8 witness_bytes i.witness refl) (or_none _)
+    ∙ rw (
+      look_part 1 output_bytes i.spent refl,
+      no_signature (1 ∷ []) i.partial (λ k. refl),
+      look_other_all (1 ∷ []) i.all
+          refl,
+      look_other_part (1 ∷ []) 5 as_it_is i.script refl,
+      look_other_part (1 ∷ []) 8 witness_bytes i.witness refl,
+    ) (or_none _)
 
 pub found_signature : (key : List ℕ) (i : PsbtInput) → look_up (2 ∷ key) (input_records i) ≡ look_up key i.partial
 found_signature key i =
     found_parts (2 ∷ key) i
-    ∙ rw (look_other_part (2 ∷ key) 1 output_bytes i.spent refl, look_signature key i.partial, look_other_all (2 ∷ key) i.all refl, look_other_part (2 ∷ key) 5 as_it_is i.script refl, look_other_part (2 ∷ key) 8 witness_bytes i.witness refl) (or_none _)
+    ∙ rw (
+      look_other_part (2 ∷ key) 1 output_bytes i.spent refl,
+      look_signature key i.partial,
+      look_other_all (2 ∷ key) i.all
+          refl,
+      look_other_part (2 ∷ key) 5 as_it_is i.script refl,
+      look_other_part (2 ∷ key) 8 witness_bytes i.witness refl,
+    ) (or_none _)
 
 pub found_all : (i : PsbtInput) → look_up (3 ∷ []) (input_records i) ≡ (if i.all then Some all_type else None)
 found_all i =
     found_parts (3 ∷ []) i
-    ∙ rw (look_other_part (3 ∷ []) 1 output_bytes i.spent refl, no_signature (3 ∷ []) i.partial (λ k. refl), look_all i.all, look_other_part (3 ∷ []) 5 as_it_is i.script refl, look_other_part (3 ∷ []) 8 witness_bytes i.witness refl) (or_none _)
+    ∙ rw (
+      look_other_part (3 ∷ []) 1 output_bytes i.spent refl,
+      no_signature (3 ∷ []) i.partial (λ k. refl),
+      look_all i.all,
+      look_other_part
+          (3 ∷ []) 5 as_it_is i.script refl,
+      look_other_part (3 ∷ []) 8 witness_bytes i.witness refl,
+    ) (or_none _)
 
 pub found_script : (i : PsbtInput) → look_up (5 ∷ []) (input_records i) ≡ i.script
 found_script i =
     found_parts (5 ∷ []) i
-    ∙ rw (look_other_part (5 ∷ []) 1 output_bytes i.spent refl, no_signature (5 ∷ []) i.partial (λ k. refl), look_other_all (5 ∷ []) i.all refl, look_part 5 as_it_is i.script refl, look_other_part (5 ∷ []) 8 witness_bytes i.witness refl) (or_none _ ∙ as_is i.script)
+    ∙ rw (
+      look_other_part (5 ∷ []) 1 output_bytes i.spent refl,
+      no_signature (5 ∷ []) i.partial (λ k. refl),
+      look_other_all (5 ∷ []) i.all
+          refl,
+      look_part 5 as_it_is i.script refl,
+      look_other_part (5 ∷ []) 8 witness_bytes i.witness refl,
+    ) (or_none _ ∙ as_is i.script)
 
 pub found_witness : (i : PsbtInput) → look_up (8 ∷ []) (input_records i) ≡ option_map witness_bytes i.witness
 found_witness i =
     found_parts (8 ∷ []) i
-    ∙ rw (look_other_part (8 ∷ []) 1 output_bytes i.spent refl, no_signature (8 ∷ []) i.partial (λ k. refl), look_other_all (8 ∷ []) i.all refl, look_other_part (8 ∷ []) 5 as_it_is i.script refl, look_part 8 witness_bytes i.witness refl) refl
+    ∙ rw (
+      look_other_part (8 ∷ []) 1 output_bytes i.spent refl,
+      no_signature (8 ∷ []) i.partial (λ k. refl),
+      look_other_all (8 ∷ []) i.all
+          refl,
+      look_other_part (8 ∷ []) 5 as_it_is i.script refl,
+      look_part 8 witness_bytes i.witness refl,
+    ) refl
 
 -- a key that is that of no part
 pub record IsForeign (key : List ℕ) : Type 0 where
@@ -146,7 +183,14 @@ pub record IsForeign (key : List ℕ) : Type 0 where
 pub found_none : (key : List ℕ) (i : PsbtInput) → IsForeign key → look_up key (input_records i) ≡ None
 found_none key i h =
     found_parts key i
-    ∙ rw (look_other_part key 1 output_bytes i.spent h.spent, no_signature key i.partial h.signature, look_other_all key i.all h.all, look_other_part key 5 as_it_is i.script h.script, look_other_part key 8 witness_bytes i.witness h.witness) refl
+    ∙ rw (
+      look_other_part key 1 output_bytes i.spent h.spent,
+      no_signature key i.partial h.signature,
+      look_other_all key i.all
+          h.all,
+      look_other_part key 5 as_it_is i.script h.script,
+      look_other_part key 8 witness_bytes i.witness h.witness,
+    ) refl
 
 -- which part a key is that of
 pub data Part_of (key : List ℕ) : Type 0 where
@@ -162,7 +206,8 @@ of_signature x xs h k = rw h refl
 
 pub part_of : (key : List ℕ) → Part_of key
 part_of [] = foreign (record { spent = refl; signature = λ k. refl; all = refl; script = refl; witness = refl })
-part_of (x ∷ xs) = by_tests (bytes_eq (1 ∷ []) (x ∷ xs)) refl (eqb 2 x) refl (bytes_eq (3 ∷ []) (x ∷ xs)) refl (bytes_eq (5 ∷ []) (x ∷ xs)) refl (bytes_eq (8 ∷ []) (x ∷ xs)) refl
+part_of (x ∷ xs) = by_tests (bytes_eq (1 ∷ []) (x ∷ xs)) refl (eqb 2 x) refl (bytes_eq (3 ∷ []) (x ∷ xs)) refl (bytes_eq (5 ∷ []) (x ∷ xs))
+    refl (bytes_eq (8 ∷ []) (x ∷ xs)) refl
   where
     by_tests : (a : Bool) → bytes_eq (1 ∷ []) (x ∷ xs) ≡ a → (b : Bool) → eqb 2 x ≡ b → (c : Bool) → bytes_eq (3 ∷ []) (x ∷ xs) ≡ c
         → (d : Bool) → bytes_eq (5 ∷ []) (x ∷ xs) ≡ d → (e : Bool) → bytes_eq (8 ∷ []) (x ∷ xs) ≡ e → Part_of (x ∷ xs)
@@ -175,34 +220,42 @@ part_of (x ∷ xs) = by_tests (bytes_eq (1 ∷ []) (x ∷ xs)) refl (eqb 2 x) re
 
 -- ---- they ascend
 
-part_before : {A : Type 0} (key : List ℕ) (t : ℕ) (spell : A → List ℕ) (o : Option A) (rest : List Pairing) → is_before key (t ∷ []) ≡ true → Before key (names_of rest) → Before key (names_of (part t spell o ++ rest))
+part_before : {A : Type 0} (key : List ℕ) (t : ℕ) (spell : A → List ℕ) (o : Option A) (rest : List Pairing) → is_before key (t ∷ []) ≡ true
+    → Before key (names_of rest) → Before key (names_of (part t spell o ++ rest))
 part_before key t spell (Some a) rest h k = (h, k)
 part_before key t spell None rest h k = k
 
-all_before : (key : List ℕ) (all : Bool) (rest : List Pairing) → is_before key (3 ∷ []) ≡ true → Before key (names_of rest) → Before key (names_of (all_part all ++ rest))
+all_before : (key : List ℕ) (all : Bool) (rest : List Pairing) → is_before key (3 ∷ []) ≡ true → Before key (names_of rest)
+    → Before key (names_of (all_part all ++ rest))
 all_before key true rest h k = (h, k)
 all_before key false rest h k = k
 
-signatures_before : (key : List ℕ) (ps rest : List Pairing) → ((k : List ℕ) → is_before key (2 ∷ k) ≡ true) → Before key (names_of rest) → Before key (names_of (map {B = Pairing} (λ p. (2 ∷ p.0, p.1)) ps ++ rest))
+signatures_before : (key : List ℕ) (ps rest : List Pairing) → ((k : List ℕ) → is_before key (2 ∷ k) ≡ true) → Before key (names_of rest)
+    → Before key (names_of (map {B = Pairing} (λ p. (2 ∷ p.0, p.1)) ps ++ rest))
 signatures_before key [] rest h k = k
 signatures_before key (p ∷ ps) rest h k = (h (p.0), signatures_before key ps rest h k)
 
-part_ascends : {A : Type 0} (t : ℕ) (spell : A → List ℕ) (o : Option A) (rest : List Pairing) → Before (t ∷ []) (names_of rest) → are_ascending (names_of rest) ≡ true → are_ascending (names_of (part t spell o ++ rest)) ≡ true
+part_ascends : {A : Type 0} (t : ℕ) (spell : A → List ℕ) (o : Option A) (rest : List Pairing) → Before (t ∷ []) (names_of rest)
+    → are_ascending (names_of rest) ≡ true → are_ascending (names_of (part t spell o ++ rest)) ≡ true
 part_ascends t spell (Some a) rest h k = ascend_with (t ∷ []) (names_of rest) h k
 part_ascends t spell None rest h k = k
 
-all_ascends : (all : Bool) (rest : List Pairing) → Before (3 ∷ []) (names_of rest) → are_ascending (names_of rest) ≡ true → are_ascending (names_of (all_part all ++ rest)) ≡ true
+all_ascends : (all : Bool) (rest : List Pairing) → Before (3 ∷ []) (names_of rest) → are_ascending (names_of rest) ≡ true
+    → are_ascending (names_of (all_part all ++ rest)) ≡ true
 all_ascends true rest h k = ascend_with (3 ∷ []) (names_of rest) h k
 all_ascends false rest h k = k
 
-before_each : (key : List ℕ) (ps rest : List Pairing) → Before key (names_of ps) → Before (2 ∷ key) (names_of rest) → Before (2 ∷ key) (names_of (map {B = Pairing} (λ p. (2 ∷ p.0, p.1)) ps ++ rest))
+before_each : (key : List ℕ) (ps rest : List Pairing) → Before key (names_of ps) → Before (2 ∷ key) (names_of rest)
+    → Before (2 ∷ key) (names_of (map {B = Pairing} (λ p. (2 ∷ p.0, p.1)) ps ++ rest))
 before_each key [] rest h k = k
 before_each key (p ∷ ps) rest h k = (h.0, before_each key ps rest h.1 k)
 
-signatures_ascend : (ps rest : List Pairing) → are_ascending (names_of ps) ≡ true → ((k : List ℕ) → Before (2 ∷ k) (names_of rest)) → are_ascending (names_of rest) ≡ true → are_ascending (names_of (map {B = Pairing} (λ p. (2 ∷ p.0, p.1)) ps ++ rest)) ≡ true
+signatures_ascend : (ps rest : List Pairing) → are_ascending (names_of ps) ≡ true → ((k : List ℕ) → Before (2 ∷ k) (names_of rest))
+    → are_ascending (names_of rest) ≡ true → are_ascending (names_of (map {B = Pairing} (λ p. (2 ∷ p.0, p.1)) ps ++ rest)) ≡ true
 signatures_ascend [] rest h k asc = asc
 signatures_ascend (p ∷ ps) rest h k asc =
-    ascend_with (2 ∷ p.0) (names_of (map {B = Pairing} (λ q. (2 ∷ q.0, q.1)) ps ++ rest)) (before_each (p.0) ps rest (first_before (p.0) (names_of ps) h) (k (p.0)))
+    ascend_with (2 ∷ p.0) (names_of (map {B = Pairing} (λ q. (2 ∷ q.0, q.1)) ps ++ rest))
+    (before_each (p.0) ps rest (first_before (p.0) (names_of ps) h) (k (p.0)))
     (signatures_ascend ps rest (others_ascend (p.0) (names_of ps) h) k asc)
 
 abbrev from_witness : PsbtInput → List Pairing
@@ -225,7 +278,8 @@ witness_ascends None = refl
 script_before : (key : List ℕ) (i : PsbtInput) → is_before key (5 ∷ []) ≡ true → is_before key (8 ∷ []) ≡ true → Before key (names_of (from_script i))
 script_before key i h k = part_before key 5 as_it_is i.script (from_witness i) h (witness_before key i.witness k)
 
-before_all_part : (key : List ℕ) (i : PsbtInput) → is_before key (3 ∷ []) ≡ true → is_before key (5 ∷ []) ≡ true → is_before key (8 ∷ []) ≡ true → Before key (names_of (from_all i))
+before_all_part : (key : List ℕ) (i : PsbtInput) → is_before key (3 ∷ []) ≡ true → is_before key (5 ∷ []) ≡ true → is_before key (8 ∷ [])
+    ≡ true → Before key (names_of (from_all i))
 before_all_part key i g h k = all_before key i.all (from_script i) g (script_before key i h k)
 
 pub records_ascend : (i : PsbtInput) → are_ascending (names_of i.partial) ≡ true → are_ascending (names_of (input_records i)) ≡ true

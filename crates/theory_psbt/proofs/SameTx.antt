@@ -61,9 +61,9 @@ bare_witness i h = no_witness i.witness (not_yes _ (and_right (eqb (length i.scr
 
 input_same : (a b : TxIn) → is_bare_input a ≡ true → is_bare_input b ≡ true → same_input a b ≡ true → a ≡ b
 input_same a b h k e =
-    let front = and_left (same_outpoint a.prev b.prev && bytes_eq a.script_sig b.script_sig) _ e in
-    let prev = outpoint_same a.prev b.prev (and_left _ _ front) in
-    let script = same_bytes a.script_sig b.script_sig (and_right (same_outpoint a.prev b.prev) _ front) in
+    let prefix = and_left (same_outpoint a.prev b.prev && bytes_eq a.script_sig b.script_sig) _ e in
+    let prev = outpoint_same a.prev b.prev (and_left _ _ prefix) in
+    let script = same_bytes a.script_sig b.script_sig (and_right (same_outpoint a.prev b.prev) _ prefix) in
     let sequence = eqb-true a.sequence b.sequence (and_right (same_outpoint a.prev b.prev && bytes_eq a.script_sig b.script_sig) _ e) in
     let witness : a.witness ≡ b.witness = bare_witness a h ∙ sym (bare_witness b k) in
     λ i. record { prev = prev i; script_sig = script i; sequence = sequence i; witness = witness i }
@@ -95,4 +95,5 @@ tx_same a b h k e =
     λ i. record { version = version i; inputs = inputs i; outputs = outputs i; lock = lock i }
 
 pub tx_own : (a : Tx) → same_bare a a ≡ true
-tx_own a = and_is _ _ (and_is _ _ (and_is _ _ (number_own a.version) (own_inputs a.inputs)) ((of_lists same_output of_outputs).own a.outputs)) (number_own a.lock)
+tx_own a =
+    and_is _ _ (and_is _ _ (and_is _ _ (number_own a.version) (own_inputs a.inputs)) ((of_lists same_output of_outputs).own a.outputs)) (number_own a.lock)

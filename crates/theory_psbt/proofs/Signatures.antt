@@ -36,7 +36,8 @@ pub before_none : {V : Type 0} (key : List ℕ) (ps : List (List ℕ × V)) → 
 before_none key ps h = look_none key ps (before_absent key (names_of ps) h)
 
 -- a key that is found comes after each that comes before all
-pub found_after : {V : Type 0} (first key : List ℕ) (ps : List (List ℕ × V)) (v : V) → Before first (names_of ps) → look_up key ps ≡ Some v → is_before first key ≡ true
+pub found_after : {V : Type 0} (first key : List ℕ) (ps : List (List ℕ × V)) (v : V) → Before first (names_of ps) → look_up key ps ≡ Some v
+    → is_before first key ≡ true
 found_after first key [] v h e = absurd cc
 found_after first key (p ∷ ps) v h e =
     by_test (bytes_eq (p.0) key) (Some (p.1)) (look_up key ps) (Some v) (is_before first key ≡ true) e
@@ -45,7 +46,8 @@ found_after first key (p ∷ ps) v h e =
 
 -- ---- put in its place
 
-pub before_put : (key : List ℕ) (r : Pairing) (ss : List Pairing) → is_before key (r.0) ≡ true → Before key (names_of ss) → Before key (names_of (insert_signature r ss))
+pub before_put : (key : List ℕ) (r : Pairing) (ss : List Pairing) → is_before key (r.0) ≡ true → Before key (names_of ss)
+    → Before key (names_of (insert_signature r ss))
 before_put key r [] h k = (h, tt)
 before_put key r (s ∷ ss) h k = by_place (is_before (r.0) (s.0)) (before_put key r ss h k.1)
   where
@@ -53,7 +55,8 @@ before_put key r (s ∷ ss) h k = by_place (is_before (r.0) (s.0)) (before_put k
     by_place true later = (h, k)
     by_place false later = (k.0, later)
 
-pub put_ascends : (r : Pairing) (ss : List Pairing) → are_ascending (names_of ss) ≡ true → is_among (r.0) (names_of ss) ≡ false → are_ascending (names_of (insert_signature r ss)) ≡ true
+pub put_ascends : (r : Pairing) (ss : List Pairing) → are_ascending (names_of ss) ≡ true → is_among (r.0) (names_of ss) ≡ false
+    → are_ascending (names_of (insert_signature r ss)) ≡ true
 put_ascends r [] h new = refl
 put_ascends r (s ∷ ss) h new =
     by_place (is_before (r.0) (s.0)) refl (put_ascends r ss (others_ascend (s.0) (names_of ss) h) (or_right (bytes_eq (s.0) (r.0)) _ new))
@@ -73,12 +76,14 @@ put_ascends r (s ∷ ss) h new =
             let level : bytes_eq (s.0) (r.0) ≡ true = subst (λ (x : List ℕ). bytes_eq (s.0) x ≡ true) same (bytes_same (s.0)) in
             absurd cc
 
-pub put_found : (key : List ℕ) (r : Pairing) (ss : List Pairing) → is_among (r.0) (names_of ss) ≡ false → look_up key (insert_signature r ss) ≡ (if bytes_eq (r.0) key then Some (r.1) else look_up key ss)
+pub put_found : (key : List ℕ) (r : Pairing) (ss : List Pairing) → is_among (r.0) (names_of ss) ≡ false
+    → look_up key (insert_signature r ss) ≡ (if bytes_eq (r.0) key then Some (r.1) else look_up key ss)
 put_found key r [] new = refl
 put_found key r (s ∷ ss) new = by_place (is_before (r.0) (s.0)) (put_found key r ss (or_right (bytes_eq (s.0) (r.0)) _ new))
   where
     by_key : (t : Bool) → bytes_eq (s.0) key ≡ t → look_up key (insert_signature r ss) ≡ (if bytes_eq (r.0) key then Some (r.1) else look_up key ss)
-        → (if t then Some (s.1) else look_up key (insert_signature r ss)) ≡ (if bytes_eq (r.0) key then Some (r.1) else (if t then Some (s.1) else look_up key ss))
+        → (if t then Some (s.1) else look_up key (insert_signature r ss))
+        ≡ (if bytes_eq (r.0) key then Some (r.1) else (if t then Some (s.1) else look_up key ss))
     by_key true e later =
         let apart : bytes_eq (r.0) key ≡ false = subst (λ (x : List ℕ). bytes_eq (r.0) x ≡ false) (same_bytes (s.0) key e) (bytes_ne-back (s.0) (r.0) (or_left _ _ new)) in
         rw apart refl
@@ -96,17 +101,20 @@ put_first r (s ∷ ss) h = rw (first_before (r.0) (names_of (s ∷ ss)) h).0 ref
 
 -- ---- ascending lists that say the same
 
-first_absent : (p q : Pairing) (ps qs : List Pairing) → are_ascending (names_of (q ∷ qs)) ≡ true → is_before (p.0) (q.0) ≡ true → look_up (p.0) (p ∷ ps) ≡ look_up (p.0) (q ∷ qs) → ⊥
+first_absent : (p q : Pairing) (ps qs : List Pairing) → are_ascending (names_of (q ∷ qs)) ≡ true → is_before (p.0) (q.0) ≡ true
+    → look_up (p.0) (p ∷ ps) ≡ look_up (p.0) (q ∷ qs) → ⊥
 first_absent p q ps qs asc h e =
     let gone : look_up (p.0) (q ∷ qs) ≡ None = before_none (p.0) (q ∷ qs) (h, all_before (p.0) (q.0) (names_of qs) h (first_before (q.0) (names_of qs) asc)) in
     none_some (p.1) (sym gone ∙ sym e ∙ look_first p ps)
 
-pub same_signatures : (ps qs : List Pairing) → are_ascending (names_of ps) ≡ true → are_ascending (names_of qs) ≡ true → ((key : List ℕ) → look_up key ps ≡ look_up key qs) → ps ≡ qs
+pub same_signatures : (ps qs : List Pairing) → are_ascending (names_of ps) ≡ true → are_ascending (names_of qs) ≡ true
+    → ((key : List ℕ) → look_up key ps ≡ look_up key qs) → ps ≡ qs
 same_signatures [] [] a b h = refl
 same_signatures [] (q ∷ qs) a b h = absurd (none_some (q.1) (h (q.0) ∙ look_first q qs))
 same_signatures (p ∷ ps) [] a b h = absurd (none_some (p.1) (sym (h (p.0)) ∙ look_first p ps))
 same_signatures (p ∷ ps) (q ∷ qs) a b h =
-    by_order (is_before (p.0) (q.0)) refl (is_before (q.0) (p.0)) refl (same_signatures ps qs (others_ascend (p.0) (names_of ps) a) (others_ascend (q.0) (names_of qs) b))
+    by_order (is_before (p.0) (q.0)) refl (is_before (q.0) (p.0)) refl
+    (same_signatures ps qs (others_ascend (p.0) (names_of ps) a) (others_ascend (q.0) (names_of qs) b))
   where
     tails : (key : List ℕ) → p.0 ≡ q.0 → (t : Bool) → bytes_eq (p.0) key ≡ t → look_up key ps ≡ look_up key qs
     tails key same true e =
@@ -117,7 +125,8 @@ same_signatures (p ∷ ps) (q ∷ qs) a b h =
         let other : bytes_eq (q.0) key ≡ false = subst (λ (x : List ℕ). bytes_eq x key ≡ false) same e in
         sym (look_other key p ps e) ∙ h key ∙ look_other key q qs other
 
-    by_order : (t : Bool) → is_before (p.0) (q.0) ≡ t → (u : Bool) → is_before (q.0) (p.0) ≡ u → (((key : List ℕ) → look_up key ps ≡ look_up key qs) → ps ≡ qs) → p ∷ ps ≡ q ∷ qs
+    by_order : (t : Bool) → is_before (p.0) (q.0) ≡ t → (u : Bool) → is_before (q.0) (p.0) ≡ u
+        → (((key : List ℕ) → look_up key ps ≡ look_up key qs) → ps ≡ qs) → p ∷ ps ≡ q ∷ qs
     by_order true e u f later = absurd (first_absent p q ps qs b e (h (p.0)))
     by_order false e true f later = absurd (first_absent q p qs ps a f (sym (h (q.0))))
     by_order false e false f later =
@@ -148,13 +157,15 @@ joined_found key here [] = by_found (look_up key here)
     by_found None = refl
 joined_found key here (p ∷ ps) = by_found (look_up (p.0) here) refl (joined_found key here ps) (joined_found key (insert_signature p here) ps)
   where
-    had_key : (s : List ℕ) (t : Bool) → bytes_eq (p.0) key ≡ t → look_up (p.0) here ≡ Some s → option_or (look_up key here) (look_up key ps) ≡ option_or (look_up key here) (if t then Some (p.1) else look_up key ps)
+    had_key : (s : List ℕ) (t : Bool) → bytes_eq (p.0) key ≡ t → look_up (p.0) here ≡ Some s → option_or (look_up key here) (look_up key ps)
+        ≡ option_or (look_up key here) (if t then Some (p.1) else look_up key ps)
     had_key s true e h =
         let found : look_up key here ≡ Some s = subst (λ (x : List ℕ). look_up x here ≡ Some s) (same_bytes (p.0) key e) h in
         rw found refl
     had_key s false e h = refl
 
-    new_key : (t : Bool) → bytes_eq (p.0) key ≡ t → look_up (p.0) here ≡ None → option_or (if t then Some (p.1) else look_up key here) (look_up key ps) ≡ option_or (look_up key here) (if t then Some (p.1) else look_up key ps)
+    new_key : (t : Bool) → bytes_eq (p.0) key ≡ t → look_up (p.0) here ≡ None
+        → option_or (if t then Some (p.1) else look_up key here) (look_up key ps) ≡ option_or (look_up key here) (if t then Some (p.1) else look_up key ps)
     new_key true e h =
         let found : look_up key here ≡ None = subst (λ (x : List ℕ). look_up x here ≡ None) (same_bytes (p.0) key e) h in
         rw found refl
@@ -162,7 +173,8 @@ joined_found key here (p ∷ ps) = by_found (look_up (p.0) here) refl (joined_fo
 
     by_found : (o : Option (List ℕ)) → look_up (p.0) here ≡ o → look_up key (signatures_joined here ps) ≡ option_or (look_up key here) (look_up key ps)
         → look_up key (signatures_joined (insert_signature p here) ps) ≡ option_or (look_up key (insert_signature p here)) (look_up key ps)
-        → look_up key (option_map_or (λ s. signatures_joined here ps) o (signatures_joined (insert_signature p here) ps)) ≡ option_or (look_up key here) (look_up key (p ∷ ps))
+        → look_up key (option_map_or (λ s. signatures_joined here ps) o (signatures_joined (insert_signature p here) ps))
+        ≡ option_or (look_up key here) (look_up key (p ∷ ps))
     by_found (Some s) e had new = had ∙ had_key s (bytes_eq (p.0) key) refl e
     by_found None e had new =
         new ∙ ap (λ (o : Option (List ℕ)). option_or o (look_up key ps)) (put_found key p here (none_among (p.0) here e)) ∙ new_key (bytes_eq (p.0) key) refl e
@@ -170,7 +182,8 @@ joined_found key here (p ∷ ps) = by_found (look_up (p.0) here) refl (joined_fo
 -- ---- a key with different signatures
 
 -- not different: found in both, it is the same
-pub agree : (key : List ℕ) (here there : List Pairing) (v w : List ℕ) → signatures_differ here there ≡ false → look_up key here ≡ Some v → look_up key there ≡ Some w → v ≡ w
+pub agree : (key : List ℕ) (here there : List Pairing) (v w : List ℕ) → signatures_differ here there ≡ false → look_up key here ≡ Some v
+    → look_up key there ≡ Some w → v ≡ w
 agree key [] there v w h e f = absurd cc
 agree key (p ∷ ps) there v w h e f =
     by_test (bytes_eq (p.0) key) (Some (p.1)) (look_up key ps) (Some v) (v ≡ w) e
@@ -209,7 +222,8 @@ differ_apart (p ∷ ps) there h d =
       differ = a.differ;
     }
 
-    by_value : (w : List ℕ) → look_up (p.0) there ≡ Some w → (t : Bool) → bytes_eq (p.1) w ≡ t → (not t || signatures_differ ps there) ≡ true → (signatures_differ ps there ≡ true → Apart ps there) → Apart (p ∷ ps) there
+    by_value : (w : List ℕ) → look_up (p.0) there ≡ Some w → (t : Bool) → bytes_eq (p.1) w ≡ t → (not t || signatures_differ ps there)
+        ≡ true → (signatures_differ ps there ≡ true → Apart ps there) → Apart (p ∷ ps) there
     by_value w e true q d later = later_apart (later d)
     by_value w e false q d later = record {
       key = p.0;
@@ -220,7 +234,8 @@ differ_apart (p ∷ ps) there h d =
       differ = λ same. let level : bytes_eq (p.1) w ≡ true = subst (λ (x : List ℕ). bytes_eq (p.1) x ≡ true) same (bytes_same (p.1)) in absurd cc;
     }
 
-    by_odds : (o : Option (List ℕ)) → look_up (p.0) there ≡ o → (are_at_odds bytes_eq (Some (p.1)) o || signatures_differ ps there) ≡ true → (signatures_differ ps there ≡ true → Apart ps there) → Apart (p ∷ ps) there
+    by_odds : (o : Option (List ℕ)) → look_up (p.0) there ≡ o → (are_at_odds bytes_eq (Some (p.1)) o || signatures_differ ps there) ≡ true
+        → (signatures_differ ps there ≡ true → Apart ps there) → Apart (p ∷ ps) there
     by_odds None e d later = later_apart (later d)
     by_odds (Some w) e d later = by_value w e (bytes_eq (p.1) w) refl d later
 
@@ -240,16 +255,19 @@ same_truth true false f g = sym (f refl)
 same_truth false true f g = g refl
 same_truth false false f g = refl
 
-pub differ_both_ways : (here there : List Pairing) → are_ascending (names_of here) ≡ true → are_ascending (names_of there) ≡ true → signatures_differ here there ≡ signatures_differ there here
+pub differ_both_ways : (here there : List Pairing) → are_ascending (names_of here) ≡ true → are_ascending (names_of there) ≡ true
+    → signatures_differ here there ≡ signatures_differ there here
 differ_both_ways here there a b =
     same_truth _ _ (λ h. apart_differ there here (apart_back here there (differ_apart here there a h)))
     (λ h. apart_differ here there (apart_back there here (differ_apart there here b h)))
 
 -- where none differ both ways of joining say the same
-pub joined_both_ways : (here there : List Pairing) → are_ascending (names_of here) ≡ true → are_ascending (names_of there) ≡ true → signatures_differ here there ≡ false → signatures_joined here there ≡ signatures_joined there here
+pub joined_both_ways : (here there : List Pairing) → are_ascending (names_of here) ≡ true → are_ascending (names_of there) ≡ true
+    → signatures_differ here there ≡ false → signatures_joined here there ≡ signatures_joined there here
 joined_both_ways here there a b calm =
     same_signatures (signatures_joined here there) (signatures_joined there here) (joined_ascend here there a) (joined_ascend there here b)
-    (λ key. joined_found key here there ∙ either (look_up key here) (look_up key there) (λ v w e f. agree key here there v w calm e f) ∙ sym (joined_found key there here))
+    (λ key. joined_found key here there ∙ either (look_up key here) (look_up key there) (λ v w e f. agree key here there v w calm e f)
+    ∙ sym (joined_found key there here))
   where
     either : (o q : Option (List ℕ)) → ((v w : List ℕ) → o ≡ Some v → q ≡ Some w → v ≡ w) → option_or o q ≡ option_or q o
     either (Some v) (Some w) h = ap (λ (x : List ℕ). some x) (h v w refl refl)

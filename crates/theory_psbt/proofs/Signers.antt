@@ -23,7 +23,7 @@ as_long f g [] = refl
 as_long f g (x ∷ xs) = ap suc (as_long f g xs)
 
 abbrev HasSigners : Listed → Type 0
-HasSigners l = length l.signers ≡ length l.draft.spends
+HasSigners l = length l.signers ≡ length l.pending.spends
 
 module _ (hash : List ℕ → List ℕ) (keys : Keys) (instance : Instance) (path : List PathStep) where
   by_ends : (o : Option PathEnd) (q : Option Subterm) → subterm_from (paths.position instance.advert.root) path ≡ q

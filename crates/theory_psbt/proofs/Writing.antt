@@ -39,18 +39,36 @@ all_joined : {A : Type 0} (P : A → Type 0) (xs ys : List A) → AllByRecursion
 all_joined P [] ys h k = k
 all_joined P (x ∷ xs) ys h k = (h.0, all_joined P xs ys h.1 k)
 
-part_proper : {A : Type 0} (t : ℕ) (spell : A → List ℕ) (Fits : A → Type 0) (o : Option A) → t < 256 → IfSome o Fits → ((a : A) → Fits a → IsBytes (spell a)) → AllByRecursion IsProper (part t spell o)
+part_proper : {A : Type 0} (t : ℕ) (spell : A → List ℕ) (Fits : A → Type 0) (o : Option A) → t < 256 → IfSome o Fits
+    → ((a : A) → Fits a → IsBytes (spell a)) → AllByRecursion IsProper (part t spell o)
 part_proper t spell Fits (Some a) small h bytes = (record { some = refl; key = single_key t small; value = bytes a h }, tt)
 part_proper t spell Fits None small h bytes = tt
 
 all_proper : (all : Bool) → AllByRecursion IsProper (all_part all)
-all_proper true = (record { some = refl; key = single_key 3 (lit< tt); value = bytes_cons 1 (0 ∷ 0 ∷ 0 ∷ []) (lit< tt) (bytes_cons 0 (0 ∷ 0 ∷ []) (lit< tt) (bytes_cons 0 (0 ∷ []) (lit< tt) (bytes_cons 0 [] (lit< tt) bytes_none))) }, tt)
+all_proper true = (
+  record {
+    some = refl;
+    key = single_key 3 (lit< tt);
+    value = bytes_cons 1 (0 ∷ 0 ∷ 0 ∷ []) (lit< tt)
+        (bytes_cons 0 (0 ∷ 0 ∷ []) (lit< tt) (bytes_cons 0 (0 ∷ []) (lit< tt) (bytes_cons 0 [] (lit< tt) bytes_none)));
+  },
+  tt,
+)
 all_proper false = tt
 
 signatures_proper : (ps : List Pairing) → AllByRecursion IsSignature ps → AllByRecursion IsProper (map {B = Pairing} (λ p. (2 ∷ p.0, p.1)) ps)
 signatures_proper [] h = tt
 signatures_proper (p ∷ ps) h = (
-  record { some = ne_eqb (length (2 ∷ p.0)) 0 (λ e. absurd (omega (arith, e, h.0.size))); key = record { bytes = bytes_cons 2 (p.0) (lit< tt) h.0.key; size = omega (arith, h.0.size) }; value = h.0.value.bytes },
+  record {
+    some = ne_eqb (length (2 ∷ p.0)) 0
+        (λ e. absurd (omega (arith, e, h.0.size)));
+    key = record {
+      bytes = bytes_cons 2 (p.0) (lit< tt) h.0.key;
+      size = omega
+          (arith, h.0.size);
+    };
+    value = h.0.value.bytes;
+  },
   signatures_proper ps h.1,
 )
 
@@ -71,7 +89,8 @@ small_values (r ∷ rs) n h =
     let value : length (sized (r.1)) ≡ length (compact (length (r.1))) + length (r.1) = length-append (compact (length (r.1))) (r.1) in
     (omega arith, small_values rs n (omega arith))
 
-are_pairings : (records : List Pairing) → AllByRecursion IsProper records → AllByRecursion (λ (r : Pairing). length (r.1) < 2 ^ 64) records → AllByRecursion IsPairing records
+are_pairings : (records : List Pairing) → AllByRecursion IsProper records → AllByRecursion (λ (r : Pairing). length (r.1) < 2 ^ 64) records
+    → AllByRecursion IsPairing records
 are_pairings [] h k = tt
 are_pairings (r ∷ rs) h k = (record { some = h.0.some; key = h.0.key; value = record { bytes = h.0.value; size = k.0 } }, are_pairings rs h.1 k.1)
 
@@ -86,7 +105,8 @@ input_map i h asc small = record {
 
 -- ---- what the written records say
 
-part_fits : {A : Type 0} (t : ℕ) (spell : A → List ℕ) (Fits : A → Type 0) (o : Option A) → IfSome o Fits → ((a : A) → Fits a → input_fits (t ∷ [], spell a) ≡ true) → list_all input_fits (part t spell o) ≡ true
+part_fits : {A : Type 0} (t : ℕ) (spell : A → List ℕ) (Fits : A → Type 0) (o : Option A) → IfSome o Fits
+    → ((a : A) → Fits a → input_fits (t ∷ [], spell a) ≡ true) → list_all input_fits (part t spell o) ≡ true
 part_fits t spell Fits (Some a) h fits = and_is _ _ (fits a h) refl
 part_fits t spell Fits None h fits = refl
 
@@ -115,7 +135,8 @@ records_fit i h =
     (both_fit (part 5 as_it_is i.script) _ (part_fits 5 as_it_is IsString i.script h.script (λ s f. refl))
     (part_fits 8 witness_bytes IsStack i.witness h.witness witness_fits))))
 
-said_again : {A : Type 0} (spell : A → List ℕ) (read : List ℕ → Option A) (Fits : A → Type 0) (o : Option A) → IfSome o Fits → ((a : A) → Fits a → read (spell a) ≡ some a) → (option_map spell o >>= read) ≡ o
+said_again : {A : Type 0} (spell : A → List ℕ) (read : List ℕ → Option A) (Fits : A → Type 0) (o : Option A) → IfSome o Fits
+    → ((a : A) → Fits a → read (spell a) ≡ some a) → (option_map spell o >>= read) ≡ o
 said_again spell read Fits (Some a) h again = again a h
 said_again spell read Fits None h again = refl
 
@@ -145,7 +166,8 @@ record Inputs_written (inputs : List PsbtInput) : Type 0 where
 abbrev written_input : PsbtInput → List ℕ
 written_input input = map_bytes (input_records input)
 
-inputs_written : (inputs : List PsbtInput) → AllByRecursion IsKnown inputs → list_all signs_ascend inputs ≡ true → length (flat_map written_input inputs) < 2 ^ 64 → Inputs_written inputs
+inputs_written : (inputs : List PsbtInput) → AllByRecursion IsKnown inputs → list_all signs_ascend inputs ≡ true
+    → length (flat_map written_input inputs) < 2 ^ 64 → Inputs_written inputs
 inputs_written [] h asc small = record { maps = tt; said = refl }
 inputs_written (i ∷ is) h asc small =
     let whole : length (flat_map written_input (i ∷ is)) ≡ length (written_input i) + length (flat_map written_input is) = ap length (flat_map-cons written_input i is) ∙ length-append (written_input i) (flat_map written_input is) in
@@ -185,12 +207,13 @@ unfolding psbt_bytes
 sizes p h =
     let last : List ℕ = replicate (length p.tx.outputs) 0 in
     let inner : List ℕ = flat_map written_input p.inputs ++ last in
-    let front : length (psbt_bytes p) ≡ length magic + length (map_bytes (global_map p) ++ inner) = length-append magic (map_bytes (global_map p) ++ inner) in
+    let prefix : length (psbt_bytes p) ≡ length magic + length (map_bytes (global_map p) ++ inner) = length-append magic (map_bytes (global_map p) ++ inner) in
     let middle : length (map_bytes (global_map p) ++ inner) ≡ length (map_bytes (global_map p)) + length inner = length-append (map_bytes (global_map p)) inner in
     let back : length inner ≡ length (flat_map written_input p.inputs) + length last = length-append (flat_map written_input p.inputs) last in
     record { global = omega arith; inputs = omega arith }
 
-parts : (p : Psbt) → psbt_bytes p ≡ magic ++ (map_bytes (global_map p) ++ (flat_map map_bytes (map input_records p.inputs) ++ flat_map map_bytes (replicate (length p.tx.outputs) none)))
+parts : (p : Psbt) → psbt_bytes p ≡ magic
+    ++ (map_bytes (global_map p) ++ (flat_map map_bytes (map input_records p.inputs) ++ flat_map map_bytes (replicate (length p.tx.outputs) none)))
 unfolding psbt_bytes
 parts p = rw (flat_map-map map_bytes input_records p.inputs, ← empty_bytes (length p.tx.outputs)) refl
 
@@ -201,13 +224,14 @@ same_length (i ∷ is) = ap suc (same_length is)
 pub written_is_spelled : (p : Psbt) → IsFitting p → length (psbt_bytes p) < 2 ^ 64 → Spells (psbt_bytes p) p
 written_is_spelled p h small =
     let size = sizes p small in
-    let front = and_left (is_unsigned p.tx && eqb (length p.inputs) (length p.tx.inputs)) _ h.is in
-    let unsigned = and_left (is_unsigned p.tx) _ front in
-    let counted = eqb-true (length p.inputs) (length p.tx.inputs) (and_right (is_unsigned p.tx) _ front) in
+    let prefix = and_left (is_unsigned p.tx && eqb (length p.inputs) (length p.tx.inputs)) _ h.is in
+    let unsigned = and_left (is_unsigned p.tx) _ prefix in
+    let counted = eqb-true (length p.inputs) (length p.tx.inputs) (and_right (is_unsigned p.tx) _ prefix) in
     let asc : list_all signs_ascend p.inputs ≡ true = and_right (is_unsigned p.tx && eqb (length p.inputs) (length p.tx.inputs)) _ h.is in
     let inputs = inputs_written p.inputs h.inputs asc size.inputs in
     let global : IsMap (global_map p) = record {
-      each = are_pairings (global_map p) (record { some = refl; key = single_key 0 (lit< tt); value = stripped_is_bytes p.tx h.tx }, tt) (small_values (global_map p) (2 ^ 64) (map_small (global_map p) size.global));
+      each = are_pairings (global_map p) (record { some = refl; key = single_key 0 (lit< tt); value = stripped_is_bytes p.tx h.tx }, tt)
+          (small_values (global_map p) (2 ^ 64) (map_small (global_map p) size.global));
       apart = refl;
     } in
     record {

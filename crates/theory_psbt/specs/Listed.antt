@@ -25,9 +25,9 @@ pub record IsSpent (spent : Spent) : Type 0 where
 -- A listed transaction whose numbers are within their widths, with signers for each input. The keys of an input's
 -- signers are different, as those of different labels are where no two hashed strings collide.
 pub record IsListed (hash : List ℕ → List ℕ) (l : Listed) : Type 0 where
-  pub tx : IsTransaction (tx_of l.draft)
-  pub spends : AllByRecursion IsSpent l.draft.spends
-  pub each_input : length l.signers ≡ length l.draft.spends
+  pub tx : IsTransaction (tx_of l.pending)
+  pub spends : AllByRecursion IsSpent l.pending.spends
+  pub each_input : length l.signers ≡ length l.pending.spends
   pub keys : AllByRecursion (λ labels. are_different (map (key_of hash) labels) ≡ true) l.signers
 
 -- with the signatures that any book has for it, it is a partially signed transaction that can be written
@@ -67,4 +67,4 @@ ParticipantsDiffer = (advert : Advert) → are_different (participants advert) �
 -- a contract's transaction has signers for each of its inputs
 abbrev pub SignersForEach : Type 0
 SignersForEach = (hash : List ℕ → List ℕ) (instance : Instance) (which : Which) (l : Listed) → listed_at hash instance which ≡ Some l
-    → length l.signers ≡ length l.draft.spends
+    → length l.signers ≡ length l.pending.spends

@@ -1,4 +1,5 @@
-//! What follows of partially signed transactions: each theorem is the contract of a function that does nothing.
+//! Theorems on partially signed transactions: reading and writing are inverse, and combining loses nothing. Each is the
+//! contract of a function that does nothing.
 #![tactic(auto)]
 
 ghost use Rattle.theory_psbt.specs.Again.{ReadIsFitting, ReadIsReadAgain};

@@ -185,7 +185,8 @@ some_people a h = by_pre a.pre h
 -- ---- all together
 
 -- what each branch of a position keeps, one fact after another
-sound_of : (hashes : List (List ℕ × List ℕ)) (secret_names : List (List ℕ)) (bs : List term.Guarded) → list_all (λ name. has_size 32 (digest_of hashes name)) secret_names ≡ true
+sound_of : (hashes : List (List ℕ × List ℕ)) (secret_names : List (List ℕ)) (bs : List term.Guarded)
+    → list_all (λ name. has_size 32 (digest_of hashes name)) secret_names ≡ true
     → list_all (λ b. are_among (reveals_of (core b)) secret_names) bs ≡ true
     → list_all (λ b. are_among (lengths_of_test (test_of (core b))) (reveals_of (core b))) bs ≡ true
     → list_all (λ b. is_bounded (test_of (core b))) bs ≡ true
@@ -197,7 +198,13 @@ sound_of hashes secret_names (b ∷ bs) c h k l m =
     let q = and_parts (are_among (lengths_of_test (test_of (core b))) (reveals_of (core b))) _ k in
     let r = and_parts (is_bounded (test_of (core b))) _ l in
     let u = and_parts (is_whole (core b)) _ m in (
-      record { known = q.0; bounded = r.0; no_test = core_test (core b) u.0; sizes = all_of (λ name. has_size 32 (digest_of hashes name)) (reveals_of (core b)) secret_names c p.0 },
+      record {
+        known = q.0;
+        bounded = r.0;
+        no_test = core_test (core b) u.0;
+        sizes = all_of (λ name. has_size 32 (digest_of hashes name))
+            (reveals_of (core b)) secret_names c p.0;
+      },
       sound_of hashes secret_names bs c p.1 q.1 r.1 u.1,
     )
 
@@ -225,6 +232,7 @@ is_good s path choice c =
     record {
       some_branch = some_branches choice w.0;
       some_people = some_people s.advert pre2.0;
-      sound = sound_of s.hashes names (branches choice) c.committed (each_of_branches (of_core known) choice a.1) (each_of_branches (of_core revealed) choice b.1) (each_of_branches (of_core bounded) choice d.1) (each_of_branches reads choice w.1);
+      sound = sound_of s.hashes names (branches choice) c.committed (each_of_branches (of_core known) choice a.1)
+          (each_of_branches (of_core revealed) choice b.1) (each_of_branches (of_core bounded) choice d.1) (each_of_branches reads choice w.1);
       fits = e.0;
     }

@@ -23,7 +23,9 @@ cut_whole before item rest k e =
     let past : drop (k + length item) (before ++ (item ++ rest)) ≡ rest = rw len (ap (drop (length (before ++ item))) (sym (append_assoc before item rest)) ∙ drop-append_seam (before ++ item) rest) in
     rw (le, d, skip, past, take-append_seam item rest)
 
-push_front : (a b : Bool) (item rest : List ℕ) → nat_le (length item) 520 ≡ true → nat_le (length item) 75 ≡ a → nat_le (length item) 255 ≡ b → first_op ((if a then length item ∷ item else (if b then 76 ∷ (length item ∷ item) else 77 ∷ ((length item % 256) ∷ ((length item / 256) ∷ item)))) ++ rest) ≡ Some (Push item, rest)
+push_front : (a b : Bool) (item rest : List ℕ) → nat_le (length item) 520 ≡ true → nat_le (length item) 75 ≡ a → nat_le (length item) 255
+    ≡ b → first_op ((if a then length item ∷ item else (if b then 76 ∷ (length item ∷ item) else 77
+    ∷ ((length item % 256) ∷ ((length item / 256) ∷ item)))) ++ rest) ≡ Some (Push item, rest)
 push_front true b item rest w h k =
     let s : nat_le (length item) 78 ≡ true = grind arith in
     rw (s, h) (cut_whole (length item ∷ []) item rest 1 refl)
@@ -35,16 +37,18 @@ push_front false false item rest w h k =
 low_code : (c : ℕ) → nat_lt 78 c ≡ true → nat_le c 78 ≡ false
 low_code c h = grind arith
 
-op_front : (op : Op) (rest : List ℕ) → is_written op ≡ true → first_op (encode_op op ++ rest) ≡ Some (op, rest)
-op_front (Push item) rest w = push_front (nat_le (length item) 75) (nat_le (length item) 255) item rest w refl refl
-op_front (Code c) rest w =
+op_prefix : (op : Op) (rest : List ℕ) → is_written op ≡ true → first_op (encode_op op ++ rest) ≡ Some (op, rest)
+op_prefix (Push item) rest w = push_front (nat_le (length item) 75) (nat_le (length item) 255) item rest w refl refl
+op_prefix (Code c) rest w =
     let p = and_parts (nat_lt 78 c) (is_some (opcode_of c)) w in
     rw (low_code c p.0, p.1)
 
-ops_step : (k : ℕ) (bytes : List ℕ) (op : Op) (rest : List ℕ) → first_op bytes ≡ Some (op, rest) → ops_of (suc k) bytes ≡ option_map (λ (ops : List Op). op ∷ ops) (ops_of k rest)
+ops_step : (k : ℕ) (bytes : List ℕ) (op : Op) (rest : List ℕ) → first_op bytes ≡ Some (op, rest) → ops_of (suc k) bytes
+    ≡ option_map (λ (ops : List Op). op ∷ ops) (ops_of k rest)
 unfolding ops_of
 ops_step k [] op rest h = cc
-ops_step k (b ∷ bytes) op rest h = ap (λ (o : Option (Op × List ℕ)). option_and_then (λ (p : Op × List ℕ). option_map (λ (ops : List Op). p.0 ∷ ops) (ops_of k p.1)) o) h
+ops_step k (b ∷ bytes) op rest h =
+    ap (λ (o : Option (Op × List ℕ)). option_and_then (λ (p : Op × List ℕ). option_map (λ (ops : List Op). p.0 ∷ ops) (ops_of k p.1)) o) h
 
 no_ops : (k : ℕ) → ops_of k [] ≡ Some []
 unfolding ops_of
@@ -55,13 +59,14 @@ read_again [] k le w = no_ops k
 read_again (op ∷ ops) zero le w = absurd (omega (arith, le))
 read_again (op ∷ ops) (suc k) le w =
     let p = and_parts (is_written op) (list_all is_written ops) w in
-    ops_step k _ op (encode ops) (op_front op (encode ops) p.0) ∙ rw (read_again ops k (omega arith) p.1)
+    ops_step k _ op (encode ops) (op_prefix op (encode ops) p.0) ∙ rw (read_again ops k (omega arith) p.1)
 
 op_some : (op : Op) → 0 < length (encode_op op)
 op_some (Code c) = omega arith
 op_some (Push item) = by_tests (nat_le (length item) 75) (nat_le (length item) 255)
   where
-    by_tests : (a b : Bool) → 0 < length (if a then length item ∷ item else (if b then 76 ∷ (length item ∷ item) else 77 ∷ ((length item % 256) ∷ ((length item / 256) ∷ item))))
+    by_tests : (a b : Bool) → 0 < length (if a then length item
+        ∷ item else (if b then 76 ∷ (length item ∷ item) else 77 ∷ ((length item % 256) ∷ ((length item / 256) ∷ item))))
     by_tests true b = omega arith
     by_tests false true = omega arith
     by_tests false false = omega arith

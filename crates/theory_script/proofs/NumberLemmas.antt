@@ -36,7 +36,8 @@ spells zero (suc k) n negative h lt =
     rw t (last_byte n negative lt)
 spells (suc j) (suc k) n negative h lt = by_size (nat_lt n 128) refl (spells j k (n / 256) negative (omega arith) (omega (arith, div-add-mod n 256)))
   where
-    by_size : (b : Bool) → nat_lt n 128 ≡ b → Spells (signed_bytes k (n / 256) negative) (n / 256) negative (j + 1) → Spells (if b then (n + (if negative then 128 else 0)) ∷ [] else (n % 256) ∷ signed_bytes k (n / 256) negative) n negative (suc j + 1)
+    by_size : (b : Bool) → nat_lt n 128 ≡ b → Spells (signed_bytes k (n / 256) negative) (n / 256) negative (j + 1)
+        → Spells (if b then (n + (if negative then 128 else 0)) ∷ [] else (n % 256) ∷ signed_bytes k (n / 256) negative) n negative (suc j + 1)
     by_size true t ih =
         let s = last_byte n negative (grind arith) in
         record { some = s.some; short = omega (arith, s.short); size = s.size; sign = s.sign }

@@ -24,12 +24,19 @@ use Rattle.theory_script.proofs.Scripts.Readable.{AllPlain, met_unlocks, unlocks
 use Rattle.theory_script.proofs.Sizes.ScriptSizes.{HasSizes, AllHaveSizes, branch_sized, output_sized}
 use Rattle.theory_script.proofs.Encoding.{encode_read}
 
-low_test : (names : List (List ℕ)) (digests : List Item) (test : Pred) → length names ≡ length digests → (length digests ≡ 0 → test ≡ always) → secrets_operations digests test ≤ 201 → test_operations test + length names ≤ 2147483647
+low_test : (names : List (List ℕ)) (digests : List Item) (test : Pred) → length names ≡ length digests
+    → (length digests ≡ 0 → test ≡ always) → secrets_operations digests test ≤ 201 → test_operations test + length names ≤ 2147483647
 low_test names [] test e none h = let t = none refl in rw t (omega (arith, e))
 low_test names (digest ∷ digests) test e none h = omega (arith, e, h)
 
 sizes_of : (b : Demands) → IsWell b → branch_operations b ≤ 201 → HasSizes b
-sizes_of b w h = record { digest_sizes = w.digest_sizes; key_sizes = w.key_sizes; bounded = w.bounded; low = low_test b.names b.digests b.test w.same_length w.no_test (omega (arith, h)) }
+sizes_of b w h = record {
+  digest_sizes = w.digest_sizes;
+  key_sizes = w.key_sizes;
+  bounded = w.bounded;
+  low = low_test b.names b.digests
+      b.test w.same_length w.no_test (omega (arith, h));
+}
 
 few_digests : (digests : List Item) (test : Pred) → length digests ≤ secrets_operations digests test
 few_digests [] test = omega arith
@@ -57,7 +64,16 @@ all_kept [] w h = record { fine = tt; sizes = tt; plain = tt; few = omega arith 
 all_kept (b ∷ []) w h = record { fine = (fine_of b w.0 h, tt); sizes = (sizes_of b w.0 h, tt); plain = (w.0.no_test, tt); few = omega arith }
 all_kept (b ∷ (next ∷ branches)) w h =
     let r = all_kept (next ∷ branches) w.1 (omega arith) in
-    record { fine = (fine_of b w.0 (omega arith), r.fine); sizes = (sizes_of b w.0 (omega arith), r.sizes); plain = (w.0.no_test, r.plain); few = omega (arith, r.few) }
+    record {
+      fine = (fine_of b w.0 (omega arith), r.fine);
+      sizes = (
+        sizes_of b w.0
+            (omega arith),
+        r.sizes,
+      );
+      plain = (w.0.no_test, r.plain);
+      few = omega (arith, r.few);
+    }
 
 op_pushable : (op : Op) → is_written op ≡ true → is_short_push op ≡ true
 op_pushable (Push item) h = h
@@ -108,7 +124,8 @@ all_reverse f (x ∷ xs) h =
     rw (reverse-append (x ∷ []) xs) (all_append f (reverse xs) (x ∷ []) (all_reverse f xs p.1) (and_from (f x) true p.0 refl))
 
 module _ (hash : Item → Item) (valid : Item → Item → Bool) where
-  pub meaning_is : (branches : List Demands) (stack : List Item) → IsChecked branches → list_all is_short stack ≡ true → script_meaning hash valid (encode (output_ops branches)) stack ≡ position_meets hash valid branches (reverse stack)
+  pub meaning_is : (branches : List Demands) (stack : List Item) → IsChecked branches → list_all is_short stack ≡ true
+      → script_meaning hash valid (encode (output_ops branches)) stack ≡ position_meets hash valid branches (reverse stack)
   unfolding script_meaning
   meaning_is branches stack c short =
       let k = all_kept branches c.well c.operations in
@@ -118,7 +135,8 @@ module _ (hash : Item → Item) (valid : Item → Item → Bool) where
       rw (bytes, encode_read (output_ops branches) s.written, all_pushable (output_ops branches) s.written, ops)
       (output_meaning hash valid 201 branches (reverse stack) c.some_branch k.fine (omega (arith, k.few, c.operations)) (all_reverse is_short stack short))
 
-pub says : (hash : Item → Item) (valid : Item → Item → Bool) (branches : List Demands) (stack : List Item) → IsChecked branches → list_all is_short stack ≡ true → SaysUnlocks hash valid branches stack
+pub says : (hash : Item → Item) (valid : Item → Item → Bool) (branches : List Demands) (stack : List Item) → IsChecked branches
+    → list_all is_short stack ≡ true → SaysUnlocks hash valid branches stack
 says hash valid branches stack c short =
     let e = meaning_is hash valid branches stack c short in
     record {
@@ -139,10 +157,28 @@ truth_of_chosen (suc i) = ap (λ bs. false ∷ bs) (truth_of_chosen i)
 pub selectors_select : (i n : ℕ) → map truth (selectors i n) ≡ selection i n
 selectors_select i n = by_last (nat_lt (i + 1) n)
   where
-    by_last : (b : Bool) → map truth (if b then replicate i [] ++ (1 ∷ []) ∷ [] else replicate i []) ≡ (if b then replicate i false ++ true ∷ [] else replicate i false)
+    by_last : (b : Bool) → map truth (if b then replicate i [] ++ (1 ∷ []) ∷ [] else replicate i [])
+        ≡ (if b then replicate i false ++ true ∷ [] else replicate i false)
     by_last true = truth_of_chosen i
     by_last false = truth_of_selectors i
 
-pub witness_unlocks : (hash : Item → Item) (valid : Item → Item → Bool) (branches : List Demands) (i : ℕ) (b : Demands) (secrets signatures : List Item) → slice_get branches i ≡ Some b → are_secrets hash secrets b.digests ≡ true → holds (secret_lengths b.names secrets) b.test ≡ true → are_valid valid signatures b.keys ≡ true → Unlocks hash valid branches (selectors i (length branches) ++ (secrets ++ signatures))
+pub witness_unlocks : (hash : Item → Item) (valid : Item → Item → Bool) (branches : List Demands) (i : ℕ) (b : Demands)
+    (secrets signatures : List Item) → slice_get branches i ≡ Some b → are_secrets hash secrets b.digests ≡ true
+    → holds (secret_lengths b.names secrets) b.test ≡ true → are_valid valid signatures b.keys ≡ true
+    → Unlocks hash valid branches (selectors i (length branches) ++ (secrets ++ signatures))
 witness_unlocks hash valid branches i b secrets signatures at fits holds signed =
-    record { i = i; b = b; selectors = selectors i (length branches); secrets = secrets; signatures = signatures; is_branch = at; is_stack = refl; selects = selectors_select i (length branches); fits = fits; predicate = holds; signed = signed }
+    record {
+      i = i;
+      b = b;
+      selectors = selectors i
+          (length branches);
+      secrets = secrets;
+      signatures = signatures;
+      is_branch = at;
+      is_stack = refl;
+      selects = selectors_select i
+          (length branches);
+      fits = fits;
+      predicate = holds;
+      signed = signed;
+    }

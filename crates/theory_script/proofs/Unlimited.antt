@@ -8,7 +8,7 @@ use Rattle.spec_bitcoin.specs.declared.opcode.Kind.TheVariants.{Begins, Cuts, En
 use Rattle.spec_bitcoin.specs.Effects.{Item, Stacks, truth}
 use Rattle.spec_bitcoin.specs.Meaning.{pop_condition, run, run_sections, outcome}
 use Rattle.spec_bitcoin.specs.Trees.{Items, End, Plain, Block, Sections, NoMore, Section, Open, Outside, Inside, Unmatched}
-use Rattle.spec_bitcoin.specs.Trees.{put_front, put_kind, kind_of, read, outside}
+use Rattle.spec_bitcoin.specs.Trees.{put_at_head, put_kind, kind_of, read, outside}
 use Rattle.theory_script.specs.Limits.{free_act, free_choose, free_items, free_sections, free_outcome}
 use Rattle.theory_script.proofs.Scripts.Limits.{Holds, act_holds, act_is, step_in}
 
@@ -29,19 +29,19 @@ ops_open (Outside items) = ops_in items
 ops_open (Inside items others outer) = ops_in items + ops_in_sections others + ops_open outer
 ops_open Unmatched = 0
 
-front_count : (op : Op) (o : Open) → ops_open (put_front (Plain op) o) ≤ ops_open o + 1
-front_count op (Outside items) = omega arith
-front_count op (Inside items others outer) = omega arith
-front_count op Unmatched = omega arith
+prefix_count : (op : Op) (o : Open) → ops_open (put_at_head (Plain op) o) ≤ ops_open o + 1
+prefix_count op (Outside items) = omega arith
+prefix_count op (Inside items others outer) = omega arith
+prefix_count op Unmatched = omega arith
 
 block_count : (negated : Bool) (sections : Sections) (o : Open)
-    → ops_open (put_front (Block negated sections) o) ≤ ops_in_sections sections + ops_open o
+    → ops_open (put_at_head (Block negated sections) o) ≤ ops_in_sections sections + ops_open o
 block_count negated sections (Outside items) = omega arith
 block_count negated sections (Inside items others outer) = omega arith
 block_count negated sections Unmatched = omega arith
 
 kind_count : (k : Kind) (op : Op) (o : Open) → ops_open (put_kind k op o) ≤ ops_open o + 1
-kind_count Runs op o = front_count op o
+kind_count Runs op o = prefix_count op o
 kind_count (Begins negated) op (Outside items) = omega arith
 kind_count (Begins negated) op (Inside items others outer) =
     let c = block_count negated (Section items others) outer in

@@ -1,5 +1,5 @@
-//! What follows of the scripts and the transactions of contracts: each theorem is the contract of a function that does nothing.
-//! Those of `any_keys` hold whatever the keys are; here they speak of the key plan.
+//! Theorems on scripts and compiled transactions: a script is true exactly on a branch's witness, meets no limit, and
+//! money is kept. Those of `any_keys` hold whatever the keys are; here they speak of the key plan.
 #![tactic(auto)]
 
 ghost use Rattle.spec_bitcoin.specs.Statements.{WrittenIsRead};

@@ -1,5 +1,5 @@
-//! Signatures and keys that others published, and numbers at their bounds: each row is computed from the definitions.
-//! These rows show that the definitions are those of the curve that Bitcoin uses.
+//! Test vectors of ECDSA: published signatures and keys, and numbers at their bounds, computed from the definitions.
+//! They show that `spec_curve` defines the curve that Bitcoin uses.
 #![tactic(auto)]
 
 ghost use Rattle.theory_signatures.specs.Multiples.{MultiplesOfBase};

@@ -51,7 +51,8 @@ pub among_more : (x a : List ℕ) (names : List (List ℕ)) → is_among x names
 among_more x a names h = list_any-append (λ t. bytes_eq t x) names (a ∷ []) ∙ or_yes _ _ h
 
 -- what passes for all by names passes by more names
-pub all_among_more : {X : Type 0} (name : X → List ℕ) (a : List ℕ) (names : List (List ℕ)) (xs : List X) → list_all (λ x. is_among (name x) names) xs ≡ true → list_all (λ x. is_among (name x) (names ++ a ∷ [])) xs ≡ true
+pub all_among_more : {X : Type 0} (name : X → List ℕ) (a : List ℕ) (names : List (List ℕ)) (xs : List X)
+    → list_all (λ x. is_among (name x) names) xs ≡ true → list_all (λ x. is_among (name x) (names ++ a ∷ [])) xs ≡ true
 all_among_more name a names [] h = refl
 all_among_more name a names (x ∷ xs) h = and_is _ _ (among_more (name x) a names (and_left _ _ h)) (all_among_more name a names xs (and_right _ _ h))
 
@@ -67,7 +68,8 @@ same_truth false false f g = refl
 
 -- sameness of bytes goes both ways
 pub bytes_eq-back : (xs ys : List ℕ) → bytes_eq xs ys ≡ bytes_eq ys xs
-bytes_eq-back xs ys = same_truth _ _ (λ h. (bytes_eq-Decides ys xs).1 (sym ((bytes_eq-Decides xs ys).0 h))) (λ h. (bytes_eq-Decides xs ys).1 (sym ((bytes_eq-Decides ys xs).0 h)))
+bytes_eq-back xs ys =
+    same_truth _ _ (λ h. (bytes_eq-Decides ys xs).1 (sym ((bytes_eq-Decides xs ys).0 h))) (λ h. (bytes_eq-Decides xs ys).1 (sym ((bytes_eq-Decides ys xs).0 h)))
 
 pub bytes_ne-back : (xs ys : List ℕ) → bytes_eq xs ys ≡ false → bytes_eq ys xs ≡ false
 bytes_ne-back xs ys h = bytes_eq-back ys xs ∙ h

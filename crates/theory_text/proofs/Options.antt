@@ -24,7 +24,8 @@ came None f y h = absurd (none_some y h)
 came (Some x) f y h = record { first = x; is = refl; then' = h }
 
 -- what holds of each element holds of all
-pub onto_all : {A : Type 0} (P : A → Type 0) (x : Option A) (xs : Option (List A)) (ys : List A) → onto x xs ≡ some ys → ((a : A) → x ≡ some a → P a) → ((as' : List A) → xs ≡ some as' → AllByRecursion P as') → AllByRecursion P ys
+pub onto_all : {A : Type 0} (P : A → Type 0) (x : Option A) (xs : Option (List A)) (ys : List A) → onto x xs ≡ some ys
+    → ((a : A) → x ≡ some a → P a) → ((as' : List A) → xs ≡ some as' → AllByRecursion P as') → AllByRecursion P ys
 onto_all P (Some a) (Some as') ys h f g = subst (AllByRecursion P) (some_is (a ∷ as') ys h) (f a refl, g as' refl)
 onto_all P (Some a) None ys h f g = absurd (none_some ys h)
 onto_all P None xs ys h f g = absurd (none_some ys h)

@@ -24,7 +24,8 @@ no_answer : (f : TextFault) (a : Advert) → Err f ≡ answer a → ⊥
 no_answer f a h = absurd cc
 
 -- what is answered was read
-answered : (text : List ℕ) (tokens : List Token) (r : Result Advert Stop) (advert : Advert) → advert_of_all (lexemes text tokens) ≡ r → answer_of text tokens r ≡ answer advert → advert_of_all (lexemes text tokens) ≡ Ok advert
+answered : (text : List ℕ) (tokens : List Token) (r : Result Advert Stop) (advert : Advert) → advert_of_all (lexemes text tokens) ≡ r
+    → answer_of text tokens r ≡ answer advert → advert_of_all (lexemes text tokens) ≡ Ok advert
 answered text tokens (Ok a) advert is h = is ∙ ap (λ (z : Advert). Ok z) (answer_is a advert h)
 answered text tokens (Err stop) advert is h = absurd (no_answer (fault_of text tokens stop) advert h)
 

@@ -5,7 +5,8 @@ use Rattle.std.specs.Prelude.{take_while}
 use Rattle.std.proofs.lemmas.List.{length-take, take_at}
 use Rattle.theory_text.proofs.ListFacts.{and_is, and_left, and_right}
 
-one_more : (p : ℕ → Bool) (x : ℕ) (xs : List ℕ) (t : Bool) → p x ≡ t → list_all p (take (prefix_len p xs) xs) ≡ true → list_all p (take (cond t (1 + prefix_len p xs) 0) (x ∷ xs)) ≡ true
+one_more : (p : ℕ → Bool) (x : ℕ) (xs : List ℕ) (t : Bool) → p x ≡ t → list_all p (take (prefix_len p xs) xs) ≡ true
+    → list_all p (take (cond t (1 + prefix_len p xs) 0) (x ∷ xs)) ≡ true
 one_more p x xs true h e = let n : 1 + prefix_len p xs ≡ suc (prefix_len p xs) = omega arith in rw n (and_is _ _ h e)
 one_more p x xs false h e = refl
 

@@ -1,4 +1,5 @@
-//! What follows of the texts: each theorem is the contract of a function that does nothing.
+//! Theorems on files: the reader gives what the tokens spell, printed adverts, events and headers read back, and a run
+//! file that isn't refused is a run of which the theorems speak. Each is the contract of a function that does nothing.
 #![tactic(auto)]
 
 ghost use Rattle.theory_text.specs.RunFiles.{RunFileTheorem};

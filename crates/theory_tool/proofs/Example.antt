@@ -19,7 +19,7 @@ use Rattle.spec_run.specs.declared.event.Event.TheVariants as events
 use Rattle.spec_run.specs.declared.event.Run.{Run}
 use Rattle.spec_run.specs.Setup.{Setup}
 use Rattle.spec_run.specs.Event.{opening_collision}
-use Rattle.spec_text.specs.Lexis.{word_front, number_front, symbol_front}
+use Rattle.spec_text.specs.Lexis.{word_prefix, number_prefix, symbol_prefix}
 use Rattle.spec_text.specs.ReadAdvert.{read_answer as read_contract, advert_of_all, advert_at, entries_at, entry_at, head_at, deposit_at}
 use Rattle.spec_text.specs.ReadAdvert.{secret_at, fee_at}
 use Rattle.spec_text.specs.ReadContract.{withdraw_at, condition_at, reveals_at, puts_at, put_reveals_at, headed_at, one_branch_at}
@@ -28,7 +28,7 @@ use Rattle.spec_text.specs.ReadTest.{constant_at, length_at, formula_at, compari
 use Rattle.spec_text.specs.Reading.{names_from}
 use Rattle.spec_text.specs.Refusals.{Judged, run_of}
 use Rattle.spec_tool.specs.Commands.{JudgedAll, contracts_from, setup_of}
-use Rattle.spec_tool.proofs.WorkedHash.{stirred}
+use Rattle.spec_tool.proofs.HashVectors.{stirred}
 use Rattle.theory_tool.specs.Example.{example_contract, example_run, RunWithOffers}
 use Rattle.theory_tool.proofs.Headlines.{valid_runs_are}
 
@@ -119,7 +119,7 @@ unfolding is_name digits
 run_is_taken = refl
 
 contract_is_taken : contracts_from 0 (example_contract ∷ []) ≡ all_contracts
-unfolding is_name word_front number_front symbol_front read_contract advert_of_all advert_at entries_at entry_at head_at deposit_at
+unfolding is_name word_prefix number_prefix symbol_prefix read_contract advert_of_all advert_at entries_at entry_at head_at deposit_at
     secret_at fee_at choice_with branches_at branch_at parts_at auth_at after_at put_at reveal_at split_at reveals_at puts_at put_reveals_at
     headed_at one_branch_at condition_at names_from test_at comparison_at formula_at constant_at length_at withdraw_at digits
 contract_is_taken = refl

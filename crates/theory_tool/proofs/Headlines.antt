@@ -11,7 +11,7 @@ use Rattle.spec_calculus.specs.declared.step.Step.{Step}
 use Rattle.spec_calculus.specs.Steps.{Legal, after_steps}
 use Rattle.spec_run.specs.declared.event.Event.{Event}
 use Rattle.spec_run.specs.declared.event.Run.{Run}
-use Rattle.spec_run.specs.Draft.{Halt, Collided, Guessed}
+use Rattle.spec_run.specs.Pending.{Halt, Collided, Guessed}
 use Rattle.spec_run.specs.Event.{opening_collision}
 use Rattle.spec_run.specs.Translation.{Turn, opening_configuration, course, last_world, last_configuration, first_halt, in_order}
 use Rattle.spec_run.specs.Statements.{Simulates}

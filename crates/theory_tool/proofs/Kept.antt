@@ -5,7 +5,7 @@ use Rattle.spec_run.specs.declared.event.Event.{Event}
 use Rattle.spec_run.specs.declared.outcome.Record.{Record}
 use Rattle.spec_run.specs.Setup.{Setup}
 use Rattle.spec_run.specs.World.{World}
-use Rattle.spec_run.specs.Draft.{Draft, Answer, Went, Halted}
+use Rattle.spec_run.specs.Pending.{Pending, Answer, Went, Halted}
 use Rattle.spec_run.specs.Event.{event, opening_world, goes_on, played_from, played}
 use Rattle.spec_run.specs.Values.{ValueKept, RefusedKept}
 use Rattle.spec_run.specs.Translation.{turns_from, turn_of, world_after, opening_configuration}
@@ -26,8 +26,8 @@ use Rattle.theory_tool.proofs.Headlines.{valid_runs_are}
 
 -- the claim holds of each event that goes on, in a run that posts these strings
 abbrev HoldsOfEach : Claim → Setup → List (List ℕ) → Type 0
-HoldsOfEach claim s strings = (before : List Record) (g : Configuration) (w : World) (e : Event) (d : Draft) (next : World)
-    → event s w e ≡ Went d next → claim before g w (turn_of s strings g w (record { event = e; draft = d; world = next }))
+HoldsOfEach claim s strings = (before : List Record) (g : Configuration) (w : World) (e : Event) (d : Pending) (next : World)
+    → event s w e ≡ Went d next → claim before g w (turn_of s strings g w (record { event = e; pending = d; world = next }))
 
 module _ (claim : Claim) (s : Setup) (strings : List (List ℕ)) (holds : HoldsOfEach claim s strings) where
   -- where the event comes to this, and the claim holds of what comes after it

@@ -9,14 +9,14 @@ use Rattle.spec_run.specs.declared.event.Event.{Event}
 use Rattle.spec_run.specs.declared.event.Run.{Run}
 use Rattle.spec_run.specs.declared.header.Header.{Header}
 use Rattle.spec_run.specs.Setup.{Setup}
-use Rattle.spec_run.specs.Draft.{Collided, Guessed}
+use Rattle.spec_run.specs.Pending.{Collided, Guessed}
 use Rattle.spec_run.specs.Event.{opening_collision}
 use Rattle.spec_run.specs.Translation.{last_world}
 use Rattle.spec_text.specs.PlayText.{Ending, whole, guessed, collided}
 use Rattle.spec_text.specs.Played.{ending, play_text}
 use Rattle.spec_text.specs.PlanText.{plan_text, make_text}
 use Rattle.spec_text.specs.Refusals.{Judged, run_of}
-use Rattle.spec_text.specs.Generator.{made_contract, made_run}
+use Rattle.spec_text.specs.Generator.{generated_contract, generated_run}
 use Rattle.spec_tool.specs.declared.rule.Rule.{Rule}
 use Rattle.spec_tool.specs.declared.rule.StrategyFault.{StrategyFault}
 use Rattle.spec_tool.specs.Sizes.{most_audit_bytes}
@@ -427,8 +427,8 @@ says hash (play run contracts) texts =
 says hash (plan run contract) texts =
     files_say (run_answer plan_text) _ _ _ _ _ (run_says plan_text) hash (run_in (text_at texts 0)) (contracts_of (plan run contract) texts)
 says hash (make number size) texts =
-    made_says (run_answer make_text) _ _ _ _ _ (run_says make_text) (setup_of hash (made_run number size) (made_contract number size ∷ []))
-    ((made_run number size).events)
+    made_says (run_answer make_text) _ _ _ _ _ (run_says make_text) (setup_of hash (generated_run number size) (generated_contract number size ∷ []))
+    ((generated_run number size).events)
 says hash (psbt_of run contract which) texts =
     files_say (if_whole (printed_of (psbt_text which))) _ _ _ _ _ (text_says (psbt_text which)) hash (run_in (text_at texts 0))
     (contracts_of (psbt_of run contract which) texts)

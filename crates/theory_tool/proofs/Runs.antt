@@ -10,16 +10,16 @@ use Rattle.spec_run.specs.declared.event.Event.{Event}
 use Rattle.spec_run.specs.declared.header.HeldSecret.{HeldSecret}
 use Rattle.spec_run.specs.Setup.{Setup}
 use Rattle.spec_run.specs.World.{World}
-use Rattle.spec_run.specs.Draft.{Halt, Collided, Guessed, guess, settled, settle}
-use Rattle.spec_run.specs.Event.{draft, goes_on, opening_strings, opening_world, opening_collision, played_from, played}
+use Rattle.spec_run.specs.Pending.{Halt, Collided, Guessed, guess, applied, apply}
+use Rattle.spec_run.specs.Event.{pending, goes_on, opening_strings, opening_world, opening_collision, played_from, played}
 use Rattle.spec_run.specs.Halting.{AreApart, Collides, GivesAway, GivesNoneAway, NothingHalts}
 use Rattle.spec_run.proofs.Courses.{last_left}
 use Rattle.spec_run.specs.Translation.{opening_configuration, world_after, last_world, last_configuration, first_halt}
 use Rattle.spec_text.specs.Played.{ending_from, ending}
 use Rattle.spec_tool.specs.Commands.{ending_status}
 use Rattle.theory_calculus.proofs.Names.{among-append}
-use Rattle.theory_world.specs.KeptApart.{NoClash}
-use Rattle.theory_world.proofs.Hashed.{no_clash_none, no_clash, among_head}
+use Rattle.theory_world.specs.KeptApart.{NoCollision}
+use Rattle.theory_world.proofs.Hashed.{no_collision_none, no_collision, among_head}
 use Rattle.theory_run.proofs.Halting.Halts.{calm_is, collides, none_away, guesses}
 use Rattle.theory_tool.specs.Runs.{CollidesAt, GuessesAt, left_by, HaltsBy, NoneHalts, OpensCalmly, OpeningCollides, IsGuessing}
 use Rattle.theory_tool.specs.Runs.{IsColliding, IsUnhalted, RunsHaltByCauses}
@@ -60,7 +60,7 @@ given_among s w e [] x afterwards none away = none.0 away
 given_among s w e (y ∷ ys) x afterwards none away = given_among s w e ys x afterwards none.1 away
 
 on_not_collides : (s : Setup) (w : World) (e : Event) → NothingHalts s w e → CollidesAt s w e → ⊥
-on_not_collides s w e on c = apart_or_collides s.hash w.hashed (draft s w e).hashes c.0 c.1 on.calm c.2
+on_not_collides s w e on c = apart_or_collides s.hash w.hashed (pending s w e).hashes c.0 c.1 on.calm c.2
 
 on_not_guesses : (s : Setup) (w : World) (e : Event) → NothingHalts s w e → GuessesAt s w e → ⊥
 on_not_guesses s w e on g =
@@ -68,7 +68,7 @@ on_not_guesses s w e on g =
     given_among s w e q.sooner q.secret q.afterwards (subst (GivesNoneAway s w e) q.in_order on.unguessed) q.given
 
 guesses_not_collides : (s : Setup) (w : World) (e : Event) → GuessesAt s w e → CollidesAt s w e → ⊥
-guesses_not_collides s w e g c = apart_or_collides s.hash w.hashed (draft s w e).hashes c.0 c.1 g.2.0 c.2
+guesses_not_collides s w e g c = apart_or_collides s.hash w.hashed (pending s w e).hashes c.0 c.1 g.2.0 c.2
 
 -- where nothing halts no event is halted
 none_or_halts : (cause : Setup → World → Event → Type 0) → ((s : Setup) (w : World) (e : Event) → NothingHalts s w e → cause s w e → ⊥)
@@ -99,27 +99,27 @@ shows_later s w e es None on k = (on, k)
 shows_later s w e es (Some (x, Collided earlier later)) on k = inr (on, k)
 shows_later s w e es (Some (x, Guessed party name)) on k = inr (on, k)
 
-shown : (s : Setup) (es : List Event) (w : World) → NoClash s.hash w.hashed → Shows s w es (played_from s w es).halt
+shown : (s : Setup) (es : List Event) (w : World) → NoCollision s.hash w.hashed → Shows s w es (played_from s w es).halt
 shown s [] w fresh = tt
 shown s (e ∷ es) w fresh =
-    let d = draft s w e in
+    let d = pending s w e in
     by_answer (collision s.hash w.hashed d.hashes) (guess s w.posted d.posts d.allowed) refl refl (shown s es)
   where
-    by_answer : (c : Option (List ℕ × List ℕ)) (u : Option HeldSecret) → collision s.hash w.hashed (draft s w e).hashes ≡ c
-        → guess s w.posted (draft s w e).posts (draft s w e).allowed ≡ u
-        → ((next : World) → NoClash s.hash next.hashed → Shows s next es (played_from s next es).halt)
-        → Shows s w (e ∷ es) (goes_on e (settle w (draft s w e) c u) (λ next. played_from s next es)).halt
-    by_answer (Some pair) u ec eu ih = inl (pair.0, pair.1, collides s.hash w.hashed (draft s w e).hashes pair.0 pair.1 fresh ec)
+    by_answer : (c : Option (List ℕ × List ℕ)) (u : Option HeldSecret) → collision s.hash w.hashed (pending s w e).hashes ≡ c
+        → guess s w.posted (pending s w e).posts (pending s w e).allowed ≡ u
+        → ((next : World) → NoCollision s.hash next.hashed → Shows s next es (played_from s next es).halt)
+        → Shows s w (e ∷ es) (goes_on e (apply w (pending s w e) c u) (λ next. played_from s next es)).halt
+    by_answer (Some pair) u ec eu ih = inl (pair.0, pair.1, collides s.hash w.hashed (pending s w e).hashes pair.0 pair.1 fresh ec)
     by_answer None (Some held) ec eu ih = inl (
       held.party,
       held.name,
-      (calm_is s.hash w.hashed (draft s w e).hashes fresh ec, guesses s w e s.header.secrets held eu),
+      (calm_is s.hash w.hashed (pending s w e).hashes fresh ec, guesses s w e s.header.secrets held eu),
     )
     by_answer None None ec eu ih =
-        let next = settled w (draft s w e) in
+        let next = applied w (pending s w e) in
         shows_later s w e es (played_from s next es).halt
-        (record { calm = calm_is s.hash w.hashed (draft s w e).hashes fresh ec; unguessed = none_away s w e s.header.secrets eu })
-        (ih next (no_clash s.hash w.hashed (draft s w e).hashes fresh ec))
+        (record { calm = calm_is s.hash w.hashed (pending s w e).hashes fresh ec; unguessed = none_away s w e s.header.secrets eu })
+        (ih next (no_collision s.hash w.hashed (pending s w e).hashes fresh ec))
 
 -- ---- one of three statuses
 
@@ -169,10 +169,10 @@ abbrev Ends : Setup → List Event → ℕ → Type 0
 Ends s es n = Outcome (IsUnhalted s es) (IsGuessing s es) (IsColliding s es) n
 
 opened : (s : Setup) → opening_collision s ≡ None → OpensCalmly s
-opened s h = calm_is s.hash [] (opening_strings s) (no_clash_none s.hash) h
+opened s h = calm_is s.hash [] (opening_strings s) (no_collision_none s.hash) h
 
-pub opening_clear : (s : Setup) → opening_collision s ≡ None → NoClash s.hash (opening_world s).hashed
-opening_clear s h = no_clash s.hash [] (opening_strings s) (no_clash_none s.hash) h
+pub opening_clear : (s : Setup) → opening_collision s ≡ None → NoCollision s.hash (opening_world s).hashed
+opening_clear s h = no_collision s.hash [] (opening_strings s) (no_collision_none s.hash) h
 
 ends : (s : Setup) (es : List Event) → Ends s es (ending_status (ending s es))
 ends s es = by_opening (opening_collision s) refl
@@ -191,7 +191,7 @@ ends s es = by_opening (opening_collision s) refl
 
     by_opening : (o : Option (List ℕ × List ℕ)) → opening_collision s ≡ o → Ends s es (ending_status (ending_from w g o (first_halt s es)))
     by_opening (Some pair) h =
-        is_collision refl (inl (pair.0, pair.1, collides s.hash [] (opening_strings s) pair.0 pair.1 (no_clash_none s.hash) h))
+        is_collision refl (inl (pair.0, pair.1, collides s.hash [] (opening_strings s) pair.0 pair.1 (no_collision_none s.hash) h))
     by_opening None h = by_halt (first_halt s es) (opened s h) (shown s es (opening_world s) (opening_clear s h))
 
 -- ---- the causes are different
@@ -241,24 +241,24 @@ opens_calmly s es h = by_opening (opening_collision s) h
     by_opening None k = refl
     by_opening (Some pair) k = absurd (omega (arith, k))
 
--- no two messages of the world that these events leave clash
-clear_after : (s : Setup) (es : List Event) (w : World) → NoClash s.hash w.hashed
-    → NoClash s.hash (world_after w (played_from s w es).passed).hashed
+-- no two messages of the world that these events leave collision
+clear_after : (s : Setup) (es : List Event) (w : World) → NoCollision s.hash w.hashed
+    → NoCollision s.hash (world_after w (played_from s w es).passed).hashed
 clear_after s [] w fresh = fresh
 clear_after s (e ∷ es) w fresh =
-    let d = draft s w e in
+    let d = pending s w e in
     by_answer (collision s.hash w.hashed d.hashes) (guess s w.posted d.posts d.allowed) refl (clear_after s es)
   where
-    by_answer : (c : Option (List ℕ × List ℕ)) (u : Option HeldSecret) → collision s.hash w.hashed (draft s w e).hashes ≡ c
-        → ((next : World) → NoClash s.hash next.hashed → NoClash s.hash (world_after next (played_from s next es).passed).hashed)
-        → NoClash s.hash (world_after w (goes_on e (settle w (draft s w e) c u) (λ next. played_from s next es)).passed).hashed
+    by_answer : (c : Option (List ℕ × List ℕ)) (u : Option HeldSecret) → collision s.hash w.hashed (pending s w e).hashes ≡ c
+        → ((next : World) → NoCollision s.hash next.hashed → NoCollision s.hash (world_after next (played_from s next es).passed).hashed)
+        → NoCollision s.hash (world_after w (goes_on e (apply w (pending s w e) c u) (λ next. played_from s next es)).passed).hashed
     by_answer (Some pair) u ec ih = fresh
     by_answer None (Some held) ec ih = fresh
-    by_answer None None ec ih = ih (settled w (draft s w e)) (no_clash s.hash w.hashed (draft s w e).hashes fresh ec)
+    by_answer None None ec ih = ih (applied w (pending s w e)) (no_collision s.hash w.hashed (pending s w e).hashes fresh ec)
 
-pub last_clear : (s : Setup) (es : List Event) → opening_collision s ≡ None → NoClash s.hash (last_world s es).hashed
+pub last_clear : (s : Setup) (es : List Event) → opening_collision s ≡ None → NoCollision s.hash (last_world s es).hashed
 last_clear s es h =
     let w = opening_world s in
     let ps = (played s es).passed in
-    subst (λ (x : World). NoClash s.hash x.hashed) (sym (last_left s (world_after w ps).posted ps (opening_configuration s) w))
+    subst (λ (x : World). NoCollision s.hash x.hashed) (sym (last_left s (world_after w ps).posted ps (opening_configuration s) w))
     (clear_after s es w (opening_clear s h))

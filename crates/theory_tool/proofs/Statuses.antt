@@ -9,13 +9,13 @@ use Rattle.spec_terms.specs.Advert.{Advert}
 use Rattle.spec_run.specs.declared.event.Event.{Event}
 use Rattle.spec_run.specs.declared.event.Run.{Run}
 use Rattle.spec_run.specs.Setup.{Setup}
-use Rattle.spec_run.specs.Draft.{Collided, Guessed}
+use Rattle.spec_run.specs.Pending.{Collided, Guessed}
 use Rattle.spec_run.specs.Translation.{last_world}
 use Rattle.spec_text.specs.PlayText.{Ending, whole, guessed, collided}
 use Rattle.spec_text.specs.Played.{ending, play_text}
 use Rattle.spec_text.specs.PlanText.{plan_text}
 use Rattle.spec_text.specs.Refusals.{Judged}
-use Rattle.spec_text.specs.Generator.{made_contract, made_run}
+use Rattle.spec_text.specs.Generator.{generated_contract, generated_run}
 use Rattle.spec_tool.specs.declared.rule.Rule.{Rule}
 use Rattle.spec_tool.specs.Reads.{Read, Text, text_at, texts_read}
 use Rattle.spec_tool.specs.Commands.{Command, check, play, plan, make, psbt_of, psbt_shown, psbt_joined, weigh, audit, auto}
@@ -196,10 +196,10 @@ of_text text s es = whole_is (printed_of text) (printed_is text) s es
 abbrev status_of : (List ℕ → List ℕ) → Command → List Text → ℕ
 status_of hash command texts = (text_answer hash command texts).status
 
--- how a made run ends
+-- how a generated run ends
 abbrev made_ending : (List ℕ → List ℕ) → ℕ → ℕ → Ending
 made_ending hash number size =
-    ending (setup_of hash (made_run number size) (made_contract number size ∷ [])) ((made_run number size).events)
+    ending (setup_of hash (generated_run number size) (generated_contract number size ∷ [])) ((generated_run number size).events)
 
 pub known : (hash : List ℕ → List ℕ) (command : Command) (texts : List Text) → has_number (text_answer hash command texts).status statuses
     ≡ true

@@ -10,10 +10,10 @@ use Rattle.spec_run.specs.declared.event.Run.{Run}
 use Rattle.spec_run.specs.Setup.{Setup, contract_at}
 use Rattle.spec_run.specs.World.{World}
 use Rattle.spec_run.specs.Compiled.{compiled_instance}
-use Rattle.spec_run.specs.Draft.{Collided, Guessed}
+use Rattle.spec_run.specs.Pending.{Collided, Guessed}
 use Rattle.spec_run.specs.Translation.{last_world}
 use Rattle.spec_text.specs.declared.entry.Entry.{Entry}
-use Rattle.spec_text.specs.Generator.{made_contract, made_run}
+use Rattle.spec_text.specs.Generator.{generated_contract, generated_run}
 use Rattle.spec_text.specs.PlayText.{Ending, whole, guessed, collided, start_lines, entries_text, ending_text, report_text}
 use Rattle.spec_text.specs.Played.{entries, ending, play_text}
 use Rattle.spec_text.specs.PlanText.{setting_text, unless_halted, plan_text, make_text}
@@ -214,7 +214,7 @@ filled hash (play run contracts) texts =
 filled hash (plan run contract) texts =
     both_filled (run_answer plan_text) (λ s es. plan_filled s es) hash (run_in (text_at texts 0)) (contracts_of (plan run contract) texts)
 filled hash (make number size) texts =
-    make_filled (setup_of hash (made_run number size) (made_contract number size ∷ [])) ((made_run number size).events)
+    make_filled (setup_of hash (generated_run number size) (generated_contract number size ∷ [])) ((generated_run number size).events)
 filled hash (psbt_of run contract which) texts =
     both_filled (if_whole (printed_of (psbt_text which)))
     (λ s es. stopped_filled (ending s es) (printed_of (psbt_text which) s es) (psbt_filled which s es)) hash (run_in (text_at texts 0))

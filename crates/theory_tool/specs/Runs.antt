@@ -3,8 +3,8 @@ use Rattle.std.specs.Prelude.{◌≡◌, ℕ, List, [], ◌∷◌, ◌⊎◌, �
 use Rattle.spec_run.specs.declared.event.Event.{Event}
 use Rattle.spec_run.specs.Setup.{Setup}
 use Rattle.spec_run.specs.World.{World}
-use Rattle.spec_run.specs.Draft.{settled}
-use Rattle.spec_run.specs.Event.{draft, opening_strings, opening_world}
+use Rattle.spec_run.specs.Pending.{applied}
+use Rattle.spec_run.specs.Event.{pending, opening_strings, opening_world}
 use Rattle.spec_run.specs.Halting.{AreApart, Collides, Guesses, IsCalm, NothingHalts}
 use Rattle.spec_text.specs.Played.{ending}
 use Rattle.spec_tool.specs.Commands.{ending_status}
@@ -13,7 +13,7 @@ use Rattle.spec_tool.specs.Commands.{ending_status}
 
 -- strings that the event hashes collide with those of the world or with one another
 abbrev pub CollidesAt : Setup → World → Event → Type 0
-CollidesAt s w e = (earlier : List ℕ) × (later : List ℕ) × Collides s.hash w.hashed (draft s w e).hashes earlier later
+CollidesAt s w e = (earlier : List ℕ) × (later : List ℕ) × Collides s.hash w.hashed (pending s w e).hashes earlier later
 
 -- nothing collides, and a secret is given away by another than its owner
 abbrev pub GuessesAt : Setup → World → Event → Type 0
@@ -23,7 +23,7 @@ GuessesAt s w e = (party : List ℕ) × (name : List ℕ) × (IsCalm s w e × Gu
 
 -- the world that an event leaves where nothing halts it
 abbrev pub left_by : Setup → World → Event → World
-left_by s w e = settled w (draft s w e)
+left_by s w e = applied w (pending s w e)
 
 -- one of these events, from this world on, is halted by this, and none before it is halted by anything
 abbrev pub HaltsBy : (Setup → World → Event → Type 0) → Setup → World → List Event → Type 0

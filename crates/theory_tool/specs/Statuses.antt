@@ -6,10 +6,10 @@ use Rattle.spec_run.specs.declared.event.Event.{Event}
 use Rattle.spec_run.specs.declared.event.Run.{Run}
 use Rattle.spec_run.specs.declared.header.Header.{Header}
 use Rattle.spec_run.specs.Setup.{Setup}
-use Rattle.spec_run.specs.Draft.{Collided, Guessed}
+use Rattle.spec_run.specs.Pending.{Collided, Guessed}
 use Rattle.spec_run.specs.Halting.{AreApart, Collides}
 use Rattle.spec_run.specs.Translation.{last_world}
-use Rattle.spec_text.specs.Generator.{made_contract, made_run}
+use Rattle.spec_text.specs.Generator.{generated_contract, generated_run}
 use Rattle.spec_text.specs.Limits.{most_run_bytes, most_events}
 use Rattle.spec_text.specs.Refusals.{Judged, run_of}
 use Rattle.spec_tool.specs.declared.rule.Rule.{Rule}
@@ -44,7 +44,7 @@ PlaysFiles hash claim (Ok run) (Ok adverts) = claim (setup_of hash run adverts) 
 abbrev pub Plays : (List ℕ → List ℕ) → OfRun → Command → List Text → Type 0
 Plays hash claim (check contract) texts = ⊥
 Plays hash claim (make number size) texts =
-    claim (setup_of hash (made_run number size) (made_contract number size ∷ [])) ((made_run number size).events)
+    claim (setup_of hash (generated_run number size) (generated_contract number size ∷ [])) ((generated_run number size).events)
 Plays hash claim (psbt_shown file) texts = ⊥
 Plays hash claim (psbt_joined first second) texts = ⊥
 Plays hash claim (play run contracts) texts =

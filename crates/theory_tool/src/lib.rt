@@ -1,4 +1,5 @@
-//! What follows of the program's answers: each theorem is the contract of a function that does nothing.
+//! Theorems on the program's answers: which status comes of what, and that `play` prints the ledger's run beside a
+//! legal run of the calculus. Each is the contract of a function that does nothing.
 #![tactic(auto)]
 
 ghost use Rattle.spec_tool.specs.Causes.{CausesTheorem};

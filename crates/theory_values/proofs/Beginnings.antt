@@ -12,7 +12,7 @@ use Rattle.spec_bitcoin.specs.Meaning.{script_meaning}
 use Rattle.spec_bitcoin.specs.Numbers.{number_of_item, signed_bytes, item_of_number}
 use Rattle.spec_bitcoin.specs.Scripts.{ops_of}
 use Rattle.spec_compiler.specs.Keyed.Instance.{position_script}
-use Rattle.spec_text.specs.Lexis.{word_front, number_front, symbol_front}
+use Rattle.spec_text.specs.Lexis.{word_prefix, number_prefix, symbol_prefix}
 use Rattle.spec_text.specs.ReadAdvert.{read_answer, advert_of_all, advert_at, entries_at, entry_at, head_at, deposit_at, secret_at, fee_at}
 use Rattle.spec_text.specs.ReadContract.{withdraw_at, condition_at, reveals_at, puts_at, put_reveals_at, headed_at, one_branch_at}
 use Rattle.spec_text.specs.ReadContract.{branches_at, choice_with, parts_at, auth_at, after_at, put_at, reveal_at, split_at, branch_at}
@@ -83,7 +83,7 @@ endorsed_after_a_refusal :
     ((codes "endorsed_after_a_refusal.run", endorsed_after_a_refusal_run) ∷ (codes "timed_commitment.bitml", timed_commitment_bitml)
     ∷ [])
     ≡ prints 0 endorsed_after_a_refusal_text
-unfolding is_name word_front number_front symbol_front read_answer advert_of_all advert_at entries_at entry_at head_at deposit_at
+unfolding is_name word_prefix number_prefix symbol_prefix read_answer advert_of_all advert_at entries_at entry_at head_at deposit_at
     secret_at fee_at choice_with branches_at branch_at parts_at auth_at after_at put_at reveal_at split_at reveals_at puts_at
     put_reveals_at headed_at one_branch_at condition_at names_from test_at comparison_at formula_at constant_at length_at withdraw_at
     digits label_text stripped marked compact places_list sequences_list outputs_list preimage position_script many wide_at compact_at
@@ -142,7 +142,7 @@ endorsement_of_the_other :
     replies small_hash (codes "play" ∷ codes "endorsement_of_the_other.run" ∷ codes "two_deposits.bitml" ∷ [])
     ((codes "endorsement_of_the_other.run", endorsement_of_the_other_run) ∷ (codes "two_deposits.bitml", two_deposits_bitml) ∷ [])
     ≡ prints 0 endorsement_of_the_other_text
-unfolding is_name word_front number_front symbol_front read_answer advert_of_all advert_at entries_at entry_at head_at deposit_at
+unfolding is_name word_prefix number_prefix symbol_prefix read_answer advert_of_all advert_at entries_at entry_at head_at deposit_at
     secret_at fee_at choice_with branches_at branch_at parts_at auth_at after_at put_at reveal_at split_at reveals_at puts_at
     put_reveals_at headed_at one_branch_at condition_at names_from test_at comparison_at formula_at constant_at length_at withdraw_at
     digits label_text stripped marked compact places_list sequences_list outputs_list preimage position_script many wide_at compact_at
@@ -200,7 +200,7 @@ second_endorsement_is_missing :
     ((codes "second_endorsement_is_missing.run", second_endorsement_is_missing_run)
     ∷ (codes "timed_commitment.bitml", timed_commitment_bitml) ∷ [])
     ≡ prints 0 second_endorsement_is_missing_text
-unfolding is_name word_front number_front symbol_front read_answer advert_of_all advert_at entries_at entry_at head_at deposit_at
+unfolding is_name word_prefix number_prefix symbol_prefix read_answer advert_of_all advert_at entries_at entry_at head_at deposit_at
     secret_at fee_at choice_with branches_at branch_at parts_at auth_at after_at put_at reveal_at split_at reveals_at puts_at
     put_reveals_at headed_at one_branch_at condition_at names_from test_at comparison_at formula_at constant_at length_at withdraw_at
     digits label_text stripped marked compact places_list sequences_list outputs_list preimage position_script many wide_at compact_at
@@ -302,7 +302,7 @@ refusals_in_order :
     replies small_hash (codes "play" ∷ codes "refusals_in_order.run" ∷ codes "timed_commitment.bitml" ∷ [])
     ((codes "refusals_in_order.run", refusals_in_order_run) ∷ (codes "timed_commitment.bitml", timed_commitment_bitml) ∷ [])
     ≡ prints 0 refusals_in_order_text
-unfolding is_name word_front number_front symbol_front read_answer advert_of_all advert_at entries_at entry_at head_at deposit_at
+unfolding is_name word_prefix number_prefix symbol_prefix read_answer advert_of_all advert_at entries_at entry_at head_at deposit_at
     secret_at fee_at choice_with branches_at branch_at parts_at auth_at after_at put_at reveal_at split_at reveals_at puts_at
     put_reveals_at headed_at one_branch_at condition_at names_from test_at comparison_at formula_at constant_at length_at withdraw_at
     digits label_text stripped marked compact places_list sequences_list outputs_list preimage position_script many wide_at compact_at
@@ -375,7 +375,7 @@ not_signed_in_advance :
     ((codes "not_signed_in_advance.run", not_signed_in_advance_run)
     ∷ (codes "withdrawal_with_consent.bitml", withdrawal_with_consent_bitml) ∷ [])
     ≡ prints 0 not_signed_in_advance_text
-unfolding is_name word_front number_front symbol_front read_answer advert_of_all advert_at entries_at entry_at head_at deposit_at
+unfolding is_name word_prefix number_prefix symbol_prefix read_answer advert_of_all advert_at entries_at entry_at head_at deposit_at
     secret_at fee_at choice_with branches_at branch_at parts_at auth_at after_at put_at reveal_at split_at reveals_at puts_at
     put_reveals_at headed_at one_branch_at condition_at names_from test_at comparison_at formula_at constant_at length_at withdraw_at
     digits label_text stripped marked compact places_list sequences_list outputs_list preimage position_script many wide_at compact_at
@@ -459,7 +459,7 @@ siblings_have_keys_of_their_own :
     ((codes "siblings_have_keys_of_their_own.run", siblings_have_keys_of_their_own_run)
     ∷ (codes "either_consents.bitml", either_consents_bitml) ∷ [])
     ≡ prints 0 siblings_have_keys_of_their_own_text
-unfolding is_name word_front number_front symbol_front read_answer advert_of_all advert_at entries_at entry_at head_at deposit_at
+unfolding is_name word_prefix number_prefix symbol_prefix read_answer advert_of_all advert_at entries_at entry_at head_at deposit_at
     secret_at fee_at choice_with branches_at branch_at parts_at auth_at after_at put_at reveal_at split_at reveals_at puts_at
     put_reveals_at headed_at one_branch_at condition_at names_from test_at comparison_at formula_at constant_at length_at withdraw_at
     digits label_text stripped marked compact places_list sequences_list outputs_list preimage position_script many wide_at compact_at
@@ -557,7 +557,7 @@ transaction_again :
     replies small_hash (codes "play" ∷ codes "transaction_again.run" ∷ codes "timed_commitment.bitml" ∷ [])
     ((codes "transaction_again.run", transaction_again_run) ∷ (codes "timed_commitment.bitml", timed_commitment_bitml) ∷ [])
     ≡ prints 0 transaction_again_text
-unfolding is_name word_front number_front symbol_front read_answer advert_of_all advert_at entries_at entry_at head_at deposit_at
+unfolding is_name word_prefix number_prefix symbol_prefix read_answer advert_of_all advert_at entries_at entry_at head_at deposit_at
     secret_at fee_at choice_with branches_at branch_at parts_at auth_at after_at put_at reveal_at split_at reveals_at puts_at
     put_reveals_at headed_at one_branch_at condition_at names_from test_at comparison_at formula_at constant_at length_at withdraw_at
     digits label_text stripped marked compact places_list sequences_list outputs_list preimage position_script many wide_at compact_at

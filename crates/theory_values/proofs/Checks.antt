@@ -3,7 +3,7 @@ use Rattle.std.proofs.Common.{◌≡◌, ℕ, List, [], ◌∷◌, ◌++◌, map
 use Rattle.std.specs.Prelude.{codes}
 use Rattle.std.specs.Fmt.{digits}
 use Rattle.spec_terms.specs.Readable.{is_name}
-use Rattle.spec_text.specs.Lexis.{word_front, number_front, symbol_front}
+use Rattle.spec_text.specs.Lexis.{word_prefix, number_prefix, symbol_prefix}
 use Rattle.spec_text.specs.ReadAdvert.{read_answer, advert_of_all, advert_at, entries_at, entry_at, head_at, deposit_at, secret_at, fee_at}
 use Rattle.spec_text.specs.ReadContract.{withdraw_at, condition_at, reveals_at, puts_at, put_reveals_at, headed_at, one_branch_at}
 use Rattle.spec_text.specs.ReadContract.{branches_at, choice_with, parts_at, auth_at, after_at, put_at, reveal_at, split_at, branch_at}
@@ -47,7 +47,7 @@ accepted_first_rows = (
     []
 
 accepted_first : map checked accepted_first_rows ≡ map taken accepted_first_rows
-unfolding is_name word_front number_front symbol_front read_answer advert_of_all advert_at entries_at entry_at head_at deposit_at
+unfolding is_name word_prefix number_prefix symbol_prefix read_answer advert_of_all advert_at entries_at entry_at head_at deposit_at
     secret_at fee_at choice_with branches_at branch_at parts_at auth_at after_at put_at reveal_at split_at reveals_at puts_at
     put_reveals_at headed_at one_branch_at condition_at names_from test_at comparison_at formula_at constant_at length_at withdraw_at
     digits
@@ -73,7 +73,7 @@ accepted_second_rows = (
     []
 
 accepted_second : map checked accepted_second_rows ≡ map taken accepted_second_rows
-unfolding is_name word_front number_front symbol_front read_answer advert_of_all advert_at entries_at entry_at head_at deposit_at
+unfolding is_name word_prefix number_prefix symbol_prefix read_answer advert_of_all advert_at entries_at entry_at head_at deposit_at
     secret_at fee_at choice_with branches_at branch_at parts_at auth_at after_at put_at reveal_at split_at reveals_at puts_at
     put_reveals_at headed_at one_branch_at condition_at names_from test_at comparison_at formula_at constant_at length_at withdraw_at
     digits
@@ -91,7 +91,7 @@ refused_at_bytes_rows = (
     []
 
 refused_at_bytes : map checked refused_at_bytes_rows ≡ map refused refused_at_bytes_rows
-unfolding is_name word_front number_front symbol_front read_answer advert_of_all advert_at entries_at entry_at head_at deposit_at
+unfolding is_name word_prefix number_prefix symbol_prefix read_answer advert_of_all advert_at entries_at entry_at head_at deposit_at
     secret_at fee_at choice_with branches_at branch_at parts_at auth_at after_at put_at reveal_at split_at reveals_at puts_at
     put_reveals_at headed_at one_branch_at condition_at names_from test_at comparison_at formula_at constant_at length_at withdraw_at
     digits
@@ -115,7 +115,7 @@ refused_at_tokens_first_rows = (
     []
 
 refused_at_tokens_first : map checked refused_at_tokens_first_rows ≡ map refused refused_at_tokens_first_rows
-unfolding is_name word_front number_front symbol_front read_answer advert_of_all advert_at entries_at entry_at head_at deposit_at
+unfolding is_name word_prefix number_prefix symbol_prefix read_answer advert_of_all advert_at entries_at entry_at head_at deposit_at
     secret_at fee_at choice_with branches_at branch_at parts_at auth_at after_at put_at reveal_at split_at reveals_at puts_at
     put_reveals_at headed_at one_branch_at condition_at names_from test_at comparison_at formula_at constant_at length_at withdraw_at
     digits
@@ -139,7 +139,7 @@ refused_at_tokens_second_rows = (
     []
 
 refused_at_tokens_second : map checked refused_at_tokens_second_rows ≡ map refused refused_at_tokens_second_rows
-unfolding is_name word_front number_front symbol_front read_answer advert_of_all advert_at entries_at entry_at head_at deposit_at
+unfolding is_name word_prefix number_prefix symbol_prefix read_answer advert_of_all advert_at entries_at entry_at head_at deposit_at
     secret_at fee_at choice_with branches_at branch_at parts_at auth_at after_at put_at reveal_at split_at reveals_at puts_at
     put_reveals_at headed_at one_branch_at condition_at names_from test_at comparison_at formula_at constant_at length_at withdraw_at
     digits
@@ -163,7 +163,7 @@ refused_at_tokens_third_rows = (
     []
 
 refused_at_tokens_third : map checked refused_at_tokens_third_rows ≡ map refused refused_at_tokens_third_rows
-unfolding is_name word_front number_front symbol_front read_answer advert_of_all advert_at entries_at entry_at head_at deposit_at
+unfolding is_name word_prefix number_prefix symbol_prefix read_answer advert_of_all advert_at entries_at entry_at head_at deposit_at
     secret_at fee_at choice_with branches_at branch_at parts_at auth_at after_at put_at reveal_at split_at reveals_at puts_at
     put_reveals_at headed_at one_branch_at condition_at names_from test_at comparison_at formula_at constant_at length_at withdraw_at
     digits
@@ -187,7 +187,7 @@ refused_for_faults_first_rows = (
     []
 
 refused_for_faults_first : map checked refused_for_faults_first_rows ≡ map refused refused_for_faults_first_rows
-unfolding is_name word_front number_front symbol_front read_answer advert_of_all advert_at entries_at entry_at head_at deposit_at
+unfolding is_name word_prefix number_prefix symbol_prefix read_answer advert_of_all advert_at entries_at entry_at head_at deposit_at
     secret_at fee_at choice_with branches_at branch_at parts_at auth_at after_at put_at reveal_at split_at reveals_at puts_at
     put_reveals_at headed_at one_branch_at condition_at names_from test_at comparison_at formula_at constant_at length_at withdraw_at
     digits
@@ -211,7 +211,7 @@ refused_for_faults_second_rows = (
     []
 
 refused_for_faults_second : map checked refused_for_faults_second_rows ≡ map refused refused_for_faults_second_rows
-unfolding is_name word_front number_front symbol_front read_answer advert_of_all advert_at entries_at entry_at head_at deposit_at
+unfolding is_name word_prefix number_prefix symbol_prefix read_answer advert_of_all advert_at entries_at entry_at head_at deposit_at
     secret_at fee_at choice_with branches_at branch_at parts_at auth_at after_at put_at reveal_at split_at reveals_at puts_at
     put_reveals_at headed_at one_branch_at condition_at names_from test_at comparison_at formula_at constant_at length_at withdraw_at
     digits
@@ -229,7 +229,7 @@ refused_for_faults_third_rows = (
     []
 
 refused_for_faults_third : map checked refused_for_faults_third_rows ≡ map refused refused_for_faults_third_rows
-unfolding is_name word_front number_front symbol_front read_answer advert_of_all advert_at entries_at entry_at head_at deposit_at
+unfolding is_name word_prefix number_prefix symbol_prefix read_answer advert_of_all advert_at entries_at entry_at head_at deposit_at
     secret_at fee_at choice_with branches_at branch_at parts_at auth_at after_at put_at reveal_at split_at reveals_at puts_at
     put_reveals_at headed_at one_branch_at condition_at names_from test_at comparison_at formula_at constant_at length_at withdraw_at
     digits
@@ -253,7 +253,7 @@ refused_for_limits_first_rows = (
     []
 
 refused_for_limits_first : map checked refused_for_limits_first_rows ≡ map refused refused_for_limits_first_rows
-unfolding is_name word_front number_front symbol_front read_answer advert_of_all advert_at entries_at entry_at head_at deposit_at
+unfolding is_name word_prefix number_prefix symbol_prefix read_answer advert_of_all advert_at entries_at entry_at head_at deposit_at
     secret_at fee_at choice_with branches_at branch_at parts_at auth_at after_at put_at reveal_at split_at reveals_at puts_at
     put_reveals_at headed_at one_branch_at condition_at names_from test_at comparison_at formula_at constant_at length_at withdraw_at
     digits
@@ -274,7 +274,7 @@ refused_for_limits_second_rows = (
     []
 
 refused_for_limits_second : map checked refused_for_limits_second_rows ≡ map refused refused_for_limits_second_rows
-unfolding is_name word_front number_front symbol_front read_answer advert_of_all advert_at entries_at entry_at head_at deposit_at
+unfolding is_name word_prefix number_prefix symbol_prefix read_answer advert_of_all advert_at entries_at entry_at head_at deposit_at
     secret_at fee_at choice_with branches_at branch_at parts_at auth_at after_at put_at reveal_at split_at reveals_at puts_at
     put_reveals_at headed_at one_branch_at condition_at names_from test_at comparison_at formula_at constant_at length_at withdraw_at
     digits

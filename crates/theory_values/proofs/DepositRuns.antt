@@ -12,7 +12,7 @@ use Rattle.spec_bitcoin.specs.Meaning.{script_meaning}
 use Rattle.spec_bitcoin.specs.Numbers.{number_of_item, signed_bytes, item_of_number}
 use Rattle.spec_bitcoin.specs.Scripts.{ops_of}
 use Rattle.spec_compiler.specs.Keyed.Instance.{position_script}
-use Rattle.spec_text.specs.Lexis.{word_front, number_front, symbol_front}
+use Rattle.spec_text.specs.Lexis.{word_prefix, number_prefix, symbol_prefix}
 use Rattle.spec_text.specs.ReadAdvert.{read_answer, advert_of_all, advert_at, entries_at, entry_at, head_at, deposit_at, secret_at, fee_at}
 use Rattle.spec_text.specs.ReadContract.{withdraw_at, condition_at, reveals_at, puts_at, put_reveals_at, headed_at, one_branch_at}
 use Rattle.spec_text.specs.ReadContract.{branches_at, choice_with, parts_at, auth_at, after_at, put_at, reveal_at, split_at, branch_at}
@@ -44,7 +44,7 @@ bad_line_among_blanks :
     replies small_hash (codes "play" ∷ codes "bad_line_among_blanks.run" ∷ [])
     ((codes "bad_line_among_blanks.run", bad_line_among_blanks_run) ∷ [])
     ≡ prints 6 (lines (codes "run refused line 6" ∷ []))
-unfolding is_name word_front number_front symbol_front read_answer advert_of_all advert_at entries_at entry_at head_at deposit_at
+unfolding is_name word_prefix number_prefix symbol_prefix read_answer advert_of_all advert_at entries_at entry_at head_at deposit_at
     secret_at fee_at choice_with branches_at branch_at parts_at auth_at after_at put_at reveal_at split_at reveals_at puts_at
     put_reveals_at headed_at one_branch_at condition_at names_from test_at comparison_at formula_at constant_at length_at withdraw_at
     digits label_text stripped marked compact places_list sequences_list outputs_list preimage position_script many wide_at compact_at
@@ -98,7 +98,7 @@ bad_transactions :
     replies small_hash (codes "play" ∷ codes "bad_transactions.run" ∷ [])
     ((codes "bad_transactions.run", bad_transactions_run) ∷ [])
     ≡ prints 0 bad_transactions_text
-unfolding is_name word_front number_front symbol_front read_answer advert_of_all advert_at entries_at entry_at head_at deposit_at
+unfolding is_name word_prefix number_prefix symbol_prefix read_answer advert_of_all advert_at entries_at entry_at head_at deposit_at
     secret_at fee_at choice_with branches_at branch_at parts_at auth_at after_at put_at reveal_at split_at reveals_at puts_at
     put_reveals_at headed_at one_branch_at condition_at names_from test_at comparison_at formula_at constant_at length_at withdraw_at
     digits label_text stripped marked compact places_list sequences_list outputs_list preimage position_script many wide_at compact_at
@@ -137,7 +137,7 @@ last_height :
     replies small_hash (codes "play" ∷ codes "last_height.run" ∷ [])
     ((codes "last_height.run", last_height_run) ∷ [])
     ≡ prints 0 last_height_text
-unfolding is_name word_front number_front symbol_front read_answer advert_of_all advert_at entries_at entry_at head_at deposit_at
+unfolding is_name word_prefix number_prefix symbol_prefix read_answer advert_of_all advert_at entries_at entry_at head_at deposit_at
     secret_at fee_at choice_with branches_at branch_at parts_at auth_at after_at put_at reveal_at split_at reveals_at puts_at
     put_reveals_at headed_at one_branch_at condition_at names_from test_at comparison_at formula_at constant_at length_at withdraw_at
     digits label_text stripped marked compact places_list sequences_list outputs_list preimage position_script many wide_at compact_at
@@ -183,7 +183,7 @@ live_outputs_by_number :
     replies small_hash (codes "play" ∷ codes "live_outputs_by_number.run" ∷ [])
     ((codes "live_outputs_by_number.run", live_outputs_by_number_run) ∷ [])
     ≡ prints 0 live_outputs_by_number_text
-unfolding is_name word_front number_front symbol_front read_answer advert_of_all advert_at entries_at entry_at head_at deposit_at
+unfolding is_name word_prefix number_prefix symbol_prefix read_answer advert_of_all advert_at entries_at entry_at head_at deposit_at
     secret_at fee_at choice_with branches_at branch_at parts_at auth_at after_at put_at reveal_at split_at reveals_at puts_at
     put_reveals_at headed_at one_branch_at condition_at names_from test_at comparison_at formula_at constant_at length_at withdraw_at
     digits label_text stripped marked compact places_list sequences_list outputs_list preimage position_script many wide_at compact_at
@@ -231,7 +231,7 @@ most_money :
     replies small_hash (codes "play" ∷ codes "most_money.run" ∷ [])
     ((codes "most_money.run", most_money_run) ∷ [])
     ≡ prints 0 most_money_text
-unfolding is_name word_front number_front symbol_front read_answer advert_of_all advert_at entries_at entry_at head_at deposit_at
+unfolding is_name word_prefix number_prefix symbol_prefix read_answer advert_of_all advert_at entries_at entry_at head_at deposit_at
     secret_at fee_at choice_with branches_at branch_at parts_at auth_at after_at put_at reveal_at split_at reveals_at puts_at
     put_reveals_at headed_at one_branch_at condition_at names_from test_at comparison_at formula_at constant_at length_at withdraw_at
     digits label_text stripped marked compact places_list sequences_list outputs_list preimage position_script many wide_at compact_at
@@ -251,7 +251,7 @@ no_dashes :
     replies small_hash (codes "play" ∷ codes "no_dashes.run" ∷ [])
     ((codes "no_dashes.run", no_dashes_run) ∷ [])
     ≡ prints 6 (lines (codes "run refused line 4" ∷ []))
-unfolding is_name word_front number_front symbol_front read_answer advert_of_all advert_at entries_at entry_at head_at deposit_at
+unfolding is_name word_prefix number_prefix symbol_prefix read_answer advert_of_all advert_at entries_at entry_at head_at deposit_at
     secret_at fee_at choice_with branches_at branch_at parts_at auth_at after_at put_at reveal_at split_at reveals_at puts_at
     put_reveals_at headed_at one_branch_at condition_at names_from test_at comparison_at formula_at constant_at length_at withdraw_at
     digits label_text stripped marked compact places_list sequences_list outputs_list preimage position_script many wide_at compact_at
@@ -273,7 +273,7 @@ nothing_is_mined :
     replies small_hash (codes "play" ∷ codes "nothing_is_mined.run" ∷ [])
     ((codes "nothing_is_mined.run", nothing_is_mined_run) ∷ [])
     ≡ prints 6 (lines (codes "run refused line 5" ∷ []))
-unfolding is_name word_front number_front symbol_front read_answer advert_of_all advert_at entries_at entry_at head_at deposit_at
+unfolding is_name word_prefix number_prefix symbol_prefix read_answer advert_of_all advert_at entries_at entry_at head_at deposit_at
     secret_at fee_at choice_with branches_at branch_at parts_at auth_at after_at put_at reveal_at split_at reveals_at puts_at
     put_reveals_at headed_at one_branch_at condition_at names_from test_at comparison_at formula_at constant_at length_at withdraw_at
     digits label_text stripped marked compact places_list sequences_list outputs_list preimage position_script many wide_at compact_at
@@ -301,7 +301,7 @@ parties_without_deposits :
     replies small_hash (codes "play" ∷ codes "parties_without_deposits.run" ∷ [])
     ((codes "parties_without_deposits.run", parties_without_deposits_run) ∷ [])
     ≡ prints 0 parties_without_deposits_text
-unfolding is_name word_front number_front symbol_front read_answer advert_of_all advert_at entries_at entry_at head_at deposit_at
+unfolding is_name word_prefix number_prefix symbol_prefix read_answer advert_of_all advert_at entries_at entry_at head_at deposit_at
     secret_at fee_at choice_with branches_at branch_at parts_at auth_at after_at put_at reveal_at split_at reveals_at puts_at
     put_reveals_at headed_at one_branch_at condition_at names_from test_at comparison_at formula_at constant_at length_at withdraw_at
     digits label_text stripped marked compact places_list sequences_list outputs_list preimage position_script many wide_at compact_at
@@ -339,7 +339,7 @@ posted_twice :
     replies small_hash (codes "play" ∷ codes "posted_twice.run" ∷ [])
     ((codes "posted_twice.run", posted_twice_run) ∷ [])
     ≡ prints 0 posted_twice_text
-unfolding is_name word_front number_front symbol_front read_answer advert_of_all advert_at entries_at entry_at head_at deposit_at
+unfolding is_name word_prefix number_prefix symbol_prefix read_answer advert_of_all advert_at entries_at entry_at head_at deposit_at
     secret_at fee_at choice_with branches_at branch_at parts_at auth_at after_at put_at reveal_at split_at reveals_at puts_at
     put_reveals_at headed_at one_branch_at condition_at names_from test_at comparison_at formula_at constant_at length_at withdraw_at
     digits label_text stripped marked compact places_list sequences_list outputs_list preimage position_script many wide_at compact_at
@@ -411,7 +411,7 @@ raw_transaction :
     replies (sha_of raw_transaction_hashes) (codes "play" ∷ codes "raw_transaction.run" ∷ [])
     ((codes "raw_transaction.run", raw_transaction_run) ∷ [])
     ≡ prints 0 raw_transaction_text
-unfolding is_name word_front number_front symbol_front read_answer advert_of_all advert_at entries_at entry_at head_at deposit_at
+unfolding is_name word_prefix number_prefix symbol_prefix read_answer advert_of_all advert_at entries_at entry_at head_at deposit_at
     secret_at fee_at choice_with branches_at branch_at parts_at auth_at after_at put_at reveal_at split_at reveals_at puts_at
     put_reveals_at headed_at one_branch_at condition_at names_from test_at comparison_at formula_at constant_at length_at withdraw_at
     digits label_text stripped marked compact places_list sequences_list outputs_list preimage position_script many wide_at compact_at
@@ -475,7 +475,7 @@ raw_transaction_is_not_signed :
     replies (sha_of raw_transaction_is_not_signed_hashes) (codes "play" ∷ codes "raw_transaction_is_not_signed.run" ∷ [])
     ((codes "raw_transaction_is_not_signed.run", raw_transaction_is_not_signed_run) ∷ [])
     ≡ prints 0 raw_transaction_is_not_signed_text
-unfolding is_name word_front number_front symbol_front read_answer advert_of_all advert_at entries_at entry_at head_at deposit_at
+unfolding is_name word_prefix number_prefix symbol_prefix read_answer advert_of_all advert_at entries_at entry_at head_at deposit_at
     secret_at fee_at choice_with branches_at branch_at parts_at auth_at after_at put_at reveal_at split_at reveals_at puts_at
     put_reveals_at headed_at one_branch_at condition_at names_from test_at comparison_at formula_at constant_at length_at withdraw_at
     digits label_text stripped marked compact places_list sequences_list outputs_list preimage position_script many wide_at compact_at
@@ -509,7 +509,7 @@ secret_is_guessed :
     replies small_hash (codes "play" ∷ codes "secret_is_guessed.run" ∷ [])
     ((codes "secret_is_guessed.run", secret_is_guessed_run) ∷ [])
     ≡ prints 7 secret_is_guessed_text
-unfolding is_name word_front number_front symbol_front read_answer advert_of_all advert_at entries_at entry_at head_at deposit_at
+unfolding is_name word_prefix number_prefix symbol_prefix read_answer advert_of_all advert_at entries_at entry_at head_at deposit_at
     secret_at fee_at choice_with branches_at branch_at parts_at auth_at after_at put_at reveal_at split_at reveals_at puts_at
     put_reveals_at headed_at one_branch_at condition_at names_from test_at comparison_at formula_at constant_at length_at withdraw_at
     digits label_text stripped marked compact places_list sequences_list outputs_list preimage position_script many wide_at compact_at
@@ -530,7 +530,7 @@ too_much_money :
     replies small_hash (codes "play" ∷ codes "too_much_money.run" ∷ [])
     ((codes "too_much_money.run", too_much_money_run) ∷ [])
     ≡ prints 6 (lines (codes "run refused line 3" ∷ []))
-unfolding is_name word_front number_front symbol_front read_answer advert_of_all advert_at entries_at entry_at head_at deposit_at
+unfolding is_name word_prefix number_prefix symbol_prefix read_answer advert_of_all advert_at entries_at entry_at head_at deposit_at
     secret_at fee_at choice_with branches_at branch_at parts_at auth_at after_at put_at reveal_at split_at reveals_at puts_at
     put_reveals_at headed_at one_branch_at condition_at names_from test_at comparison_at formula_at constant_at length_at withdraw_at
     digits label_text stripped marked compact places_list sequences_list outputs_list preimage position_script many wide_at compact_at
@@ -552,7 +552,7 @@ undeclared_party :
     replies small_hash (codes "play" ∷ codes "undeclared_party.run" ∷ [])
     ((codes "undeclared_party.run", undeclared_party_run) ∷ [])
     ≡ prints 6 (lines (codes "run refused line 5" ∷ []))
-unfolding is_name word_front number_front symbol_front read_answer advert_of_all advert_at entries_at entry_at head_at deposit_at
+unfolding is_name word_prefix number_prefix symbol_prefix read_answer advert_of_all advert_at entries_at entry_at head_at deposit_at
     secret_at fee_at choice_with branches_at branch_at parts_at auth_at after_at put_at reveal_at split_at reveals_at puts_at
     put_reveals_at headed_at one_branch_at condition_at names_from test_at comparison_at formula_at constant_at length_at withdraw_at
     digits label_text stripped marked compact places_list sequences_list outputs_list preimage position_script many wide_at compact_at

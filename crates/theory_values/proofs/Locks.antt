@@ -12,7 +12,7 @@ use Rattle.spec_bitcoin.specs.Meaning.{script_meaning}
 use Rattle.spec_bitcoin.specs.Numbers.{number_of_item, signed_bytes, item_of_number}
 use Rattle.spec_bitcoin.specs.Scripts.{ops_of}
 use Rattle.spec_compiler.specs.Keyed.Instance.{position_script}
-use Rattle.spec_text.specs.Lexis.{word_front, number_front, symbol_front}
+use Rattle.spec_text.specs.Lexis.{word_prefix, number_prefix, symbol_prefix}
 use Rattle.spec_text.specs.ReadAdvert.{read_answer, advert_of_all, advert_at, entries_at, entry_at, head_at, deposit_at, secret_at, fee_at}
 use Rattle.spec_text.specs.ReadContract.{withdraw_at, condition_at, reveals_at, puts_at, put_reveals_at, headed_at, one_branch_at}
 use Rattle.spec_text.specs.ReadContract.{branches_at, choice_with, parts_at, auth_at, after_at, put_at, reveal_at, split_at, branch_at}
@@ -76,7 +76,7 @@ lock_is_not_over :
     replies small_hash (codes "play" ∷ codes "lock_is_not_over.run" ∷ codes "locked.bitml" ∷ [])
     ((codes "lock_is_not_over.run", lock_is_not_over_run) ∷ (codes "locked.bitml", locked_bitml) ∷ [])
     ≡ prints 0 lock_is_not_over_text
-unfolding is_name word_front number_front symbol_front read_answer advert_of_all advert_at entries_at entry_at head_at deposit_at
+unfolding is_name word_prefix number_prefix symbol_prefix read_answer advert_of_all advert_at entries_at entry_at head_at deposit_at
     secret_at fee_at choice_with branches_at branch_at parts_at auth_at after_at put_at reveal_at split_at reveals_at puts_at
     put_reveals_at headed_at one_branch_at condition_at names_from test_at comparison_at formula_at constant_at length_at withdraw_at
     digits label_text stripped marked compact places_list sequences_list outputs_list preimage position_script many wide_at compact_at
@@ -132,7 +132,7 @@ lock_is_over :
     replies small_hash (codes "play" ∷ codes "lock_is_over.run" ∷ codes "locked.bitml" ∷ [])
     ((codes "lock_is_over.run", lock_is_over_run) ∷ (codes "locked.bitml", locked_bitml) ∷ [])
     ≡ prints 0 lock_is_over_text
-unfolding is_name word_front number_front symbol_front read_answer advert_of_all advert_at entries_at entry_at head_at deposit_at
+unfolding is_name word_prefix number_prefix symbol_prefix read_answer advert_of_all advert_at entries_at entry_at head_at deposit_at
     secret_at fee_at choice_with branches_at branch_at parts_at auth_at after_at put_at reveal_at split_at reveals_at puts_at
     put_reveals_at headed_at one_branch_at condition_at names_from test_at comparison_at formula_at constant_at length_at withdraw_at
     digits label_text stripped marked compact places_list sequences_list outputs_list preimage position_script many wide_at compact_at
@@ -215,7 +215,7 @@ withdrawal_is_offered :
     replies small_hash (codes "play" ∷ codes "withdrawal_is_offered.run" ∷ codes "timed_commitment.bitml" ∷ [])
     ((codes "withdrawal_is_offered.run", withdrawal_is_offered_run) ∷ (codes "timed_commitment.bitml", timed_commitment_bitml) ∷ [])
     ≡ prints 0 withdrawal_is_offered_text
-unfolding is_name word_front number_front symbol_front read_answer advert_of_all advert_at entries_at entry_at head_at deposit_at
+unfolding is_name word_prefix number_prefix symbol_prefix read_answer advert_of_all advert_at entries_at entry_at head_at deposit_at
     secret_at fee_at choice_with branches_at branch_at parts_at auth_at after_at put_at reveal_at split_at reveals_at puts_at
     put_reveals_at headed_at one_branch_at condition_at names_from test_at comparison_at formula_at constant_at length_at withdraw_at
     digits label_text stripped marked compact places_list sequences_list outputs_list preimage position_script many wide_at compact_at
@@ -298,7 +298,7 @@ withdrawn_after_the_lock :
     ((codes "withdrawn_after_the_lock.run", withdrawn_after_the_lock_run) ∷ (codes "timed_commitment.bitml", timed_commitment_bitml)
     ∷ [])
     ≡ prints 0 withdrawn_after_the_lock_text
-unfolding is_name word_front number_front symbol_front read_answer advert_of_all advert_at entries_at entry_at head_at deposit_at
+unfolding is_name word_prefix number_prefix symbol_prefix read_answer advert_of_all advert_at entries_at entry_at head_at deposit_at
     secret_at fee_at choice_with branches_at branch_at parts_at auth_at after_at put_at reveal_at split_at reveals_at puts_at
     put_reveals_at headed_at one_branch_at condition_at names_from test_at comparison_at formula_at constant_at length_at withdraw_at
     digits label_text stripped marked compact places_list sequences_list outputs_list preimage position_script many wide_at compact_at
@@ -357,7 +357,7 @@ withdrawn_at_the_lock :
     replies small_hash (codes "play" ∷ codes "withdrawn_at_the_lock.run" ∷ codes "locked.bitml" ∷ [])
     ((codes "withdrawn_at_the_lock.run", withdrawn_at_the_lock_run) ∷ (codes "locked.bitml", locked_bitml) ∷ [])
     ≡ prints 0 withdrawn_at_the_lock_text
-unfolding is_name word_front number_front symbol_front read_answer advert_of_all advert_at entries_at entry_at head_at deposit_at
+unfolding is_name word_prefix number_prefix symbol_prefix read_answer advert_of_all advert_at entries_at entry_at head_at deposit_at
     secret_at fee_at choice_with branches_at branch_at parts_at auth_at after_at put_at reveal_at split_at reveals_at puts_at
     put_reveals_at headed_at one_branch_at condition_at names_from test_at comparison_at formula_at constant_at length_at withdraw_at
     digits label_text stripped marked compact places_list sequences_list outputs_list preimage position_script many wide_at compact_at

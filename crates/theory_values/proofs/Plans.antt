@@ -12,7 +12,7 @@ use Rattle.spec_bitcoin.specs.Meaning.{script_meaning}
 use Rattle.spec_bitcoin.specs.Numbers.{number_of_item, signed_bytes, item_of_number}
 use Rattle.spec_bitcoin.specs.Scripts.{ops_of}
 use Rattle.spec_compiler.specs.Keyed.Instance.{position_script}
-use Rattle.spec_text.specs.Lexis.{word_front, number_front, symbol_front}
+use Rattle.spec_text.specs.Lexis.{word_prefix, number_prefix, symbol_prefix}
 use Rattle.spec_text.specs.ReadAdvert.{read_answer, advert_of_all, advert_at, entries_at, entry_at, head_at, deposit_at, secret_at, fee_at}
 use Rattle.spec_text.specs.ReadContract.{withdraw_at, condition_at, reveals_at, puts_at, put_reveals_at, headed_at, one_branch_at}
 use Rattle.spec_text.specs.ReadContract.{branches_at, choice_with, parts_at, auth_at, after_at, put_at, reveal_at, split_at, branch_at}
@@ -101,7 +101,7 @@ digest_to_sign :
     replies (sha_of digest_to_sign_hashes) (codes "plan" ∷ codes "digest_to_sign.run" ∷ codes "withdrawal_with_consent.bitml" ∷ [])
     ((codes "digest_to_sign.run", digest_to_sign_run) ∷ (codes "withdrawal_with_consent.bitml", withdrawal_with_consent_bitml) ∷ [])
     ≡ prints 0 digest_to_sign_text
-unfolding is_name word_front number_front symbol_front read_answer advert_of_all advert_at entries_at entry_at head_at deposit_at
+unfolding is_name word_prefix number_prefix symbol_prefix read_answer advert_of_all advert_at entries_at entry_at head_at deposit_at
     secret_at fee_at choice_with branches_at branch_at parts_at auth_at after_at put_at reveal_at split_at reveals_at puts_at
     put_reveals_at headed_at one_branch_at condition_at names_from test_at comparison_at formula_at constant_at length_at withdraw_at
     digits label_text stripped marked compact places_list sequences_list outputs_list preimage position_script many wide_at compact_at
@@ -177,7 +177,7 @@ equal_siblings :
     replies (sha_of equal_siblings_hashes) (codes "plan" ∷ codes "digest_to_sign.run" ∷ codes "either_consents.bitml" ∷ [])
     ((codes "digest_to_sign.run", digest_to_sign_run) ∷ (codes "either_consents.bitml", either_consents_bitml) ∷ [])
     ≡ prints 0 equal_siblings_text
-unfolding is_name word_front number_front symbol_front read_answer advert_of_all advert_at entries_at entry_at head_at deposit_at
+unfolding is_name word_prefix number_prefix symbol_prefix read_answer advert_of_all advert_at entries_at entry_at head_at deposit_at
     secret_at fee_at choice_with branches_at branch_at parts_at auth_at after_at put_at reveal_at split_at reveals_at puts_at
     put_reveals_at headed_at one_branch_at condition_at names_from test_at comparison_at formula_at constant_at length_at withdraw_at
     digits label_text stripped marked compact places_list sequences_list outputs_list preimage position_script many wide_at compact_at
@@ -208,7 +208,7 @@ plan_before_all_committed :
     ((codes "plan_before_all_committed.run", plan_before_all_committed_run) ∷ (codes "timed_commitment.bitml", timed_commitment_bitml)
     ∷ [])
     ≡ prints 0 (lines (codes "contract 0 not compiled" ∷ []))
-unfolding is_name word_front number_front symbol_front read_answer advert_of_all advert_at entries_at entry_at head_at deposit_at
+unfolding is_name word_prefix number_prefix symbol_prefix read_answer advert_of_all advert_at entries_at entry_at head_at deposit_at
     secret_at fee_at choice_with branches_at branch_at parts_at auth_at after_at put_at reveal_at split_at reveals_at puts_at
     put_reveals_at headed_at one_branch_at condition_at names_from test_at comparison_at formula_at constant_at length_at withdraw_at
     digits label_text stripped marked compact places_list sequences_list outputs_list preimage position_script many wide_at compact_at
@@ -320,7 +320,7 @@ plan_of_a_commitment :
     replies (sha_of plan_of_a_commitment_hashes) (codes "plan" ∷ codes "plan_of_a_commitment.run" ∷ codes "timed_commitment.bitml" ∷ [])
     ((codes "plan_of_a_commitment.run", plan_of_a_commitment_run) ∷ (codes "timed_commitment.bitml", timed_commitment_bitml) ∷ [])
     ≡ prints 0 plan_of_a_commitment_text
-unfolding is_name word_front number_front symbol_front read_answer advert_of_all advert_at entries_at entry_at head_at deposit_at
+unfolding is_name word_prefix number_prefix symbol_prefix read_answer advert_of_all advert_at entries_at entry_at head_at deposit_at
     secret_at fee_at choice_with branches_at branch_at parts_at auth_at after_at put_at reveal_at split_at reveals_at puts_at
     put_reveals_at headed_at one_branch_at condition_at names_from test_at comparison_at formula_at constant_at length_at withdraw_at
     digits label_text stripped marked compact places_list sequences_list outputs_list preimage position_script many wide_at compact_at

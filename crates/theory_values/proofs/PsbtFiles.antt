@@ -12,7 +12,7 @@ use Rattle.spec_bitcoin.specs.Meaning.{script_meaning}
 use Rattle.spec_bitcoin.specs.Numbers.{number_of_item, signed_bytes, item_of_number}
 use Rattle.spec_bitcoin.specs.Scripts.{ops_of}
 use Rattle.spec_compiler.specs.Keyed.Instance.{position_script}
-use Rattle.spec_text.specs.Lexis.{word_front, number_front, symbol_front}
+use Rattle.spec_text.specs.Lexis.{word_prefix, number_prefix, symbol_prefix}
 use Rattle.spec_text.specs.ReadAdvert.{read_answer, advert_of_all, advert_at, entries_at, entry_at, head_at, deposit_at, secret_at, fee_at}
 use Rattle.spec_text.specs.ReadContract.{withdraw_at, condition_at, reveals_at, puts_at, put_reveals_at, headed_at, one_branch_at}
 use Rattle.spec_text.specs.ReadContract.{branches_at, choice_with, parts_at, auth_at, after_at, put_at, reveal_at, split_at, branch_at}
@@ -56,7 +56,7 @@ psbt_joined :
     replies small_hash (codes "psbt" ∷ codes "signed.psbt" ∷ codes "unsigned.psbt" ∷ [])
     ((codes "signed.psbt", signed_psbt) ∷ (codes "unsigned.psbt", unsigned_psbt) ∷ [])
     ≡ prints 0 psbt_joined_text
-unfolding is_name word_front number_front symbol_front read_answer advert_of_all advert_at entries_at entry_at head_at deposit_at
+unfolding is_name word_prefix number_prefix symbol_prefix read_answer advert_of_all advert_at entries_at entry_at head_at deposit_at
     secret_at fee_at choice_with branches_at branch_at parts_at auth_at after_at put_at reveal_at split_at reveals_at puts_at
     put_reveals_at headed_at one_branch_at condition_at names_from test_at comparison_at formula_at constant_at length_at withdraw_at
     digits label_text stripped marked compact places_list sequences_list outputs_list preimage position_script many wide_at compact_at
@@ -81,7 +81,7 @@ psbt_joined_the_other_way :
     replies small_hash (codes "psbt" ∷ codes "unsigned.psbt" ∷ codes "signed.psbt" ∷ [])
     ((codes "unsigned.psbt", unsigned_psbt) ∷ (codes "signed.psbt", signed_psbt) ∷ [])
     ≡ prints 0 psbt_joined_the_other_way_text
-unfolding is_name word_front number_front symbol_front read_answer advert_of_all advert_at entries_at entry_at head_at deposit_at
+unfolding is_name word_prefix number_prefix symbol_prefix read_answer advert_of_all advert_at entries_at entry_at head_at deposit_at
     secret_at fee_at choice_with branches_at branch_at parts_at auth_at after_at put_at reveal_at split_at reveals_at puts_at
     put_reveals_at headed_at one_branch_at condition_at names_from test_at comparison_at formula_at constant_at length_at withdraw_at
     digits label_text stripped marked compact places_list sequences_list outputs_list preimage position_script many wide_at compact_at
@@ -100,7 +100,7 @@ psbt_of_another_transaction :
     replies small_hash (codes "psbt" ∷ codes "signed.psbt" ∷ codes "withdrawal.psbt" ∷ [])
     ((codes "signed.psbt", signed_psbt) ∷ (codes "withdrawal.psbt", withdrawal_psbt) ∷ [])
     ≡ prints 9 (lines (codes "psbt refused other" ∷ []))
-unfolding is_name word_front number_front symbol_front read_answer advert_of_all advert_at entries_at entry_at head_at deposit_at
+unfolding is_name word_prefix number_prefix symbol_prefix read_answer advert_of_all advert_at entries_at entry_at head_at deposit_at
     secret_at fee_at choice_with branches_at branch_at parts_at auth_at after_at put_at reveal_at split_at reveals_at puts_at
     put_reveals_at headed_at one_branch_at condition_at names_from test_at comparison_at formula_at constant_at length_at withdraw_at
     digits label_text stripped marked compact places_list sequences_list outputs_list preimage position_script many wide_at compact_at
@@ -116,7 +116,7 @@ psbt_of_magic_alone :
     replies small_hash (codes "psbt" ∷ codes "magic_alone.psbt" ∷ [])
     ((codes "magic_alone.psbt", magic_alone_psbt) ∷ [])
     ≡ prints 9 (lines (codes "psbt refused 0 form" ∷ []))
-unfolding is_name word_front number_front symbol_front read_answer advert_of_all advert_at entries_at entry_at head_at deposit_at
+unfolding is_name word_prefix number_prefix symbol_prefix read_answer advert_of_all advert_at entries_at entry_at head_at deposit_at
     secret_at fee_at choice_with branches_at branch_at parts_at auth_at after_at put_at reveal_at split_at reveals_at puts_at
     put_reveals_at headed_at one_branch_at condition_at names_from test_at comparison_at formula_at constant_at length_at withdraw_at
     digits label_text stripped marked compact places_list sequences_list outputs_list preimage position_script many wide_at compact_at
@@ -135,7 +135,7 @@ psbt_second_with_space :
     replies small_hash (codes "psbt" ∷ codes "signed.psbt" ∷ codes "spaced.psbt" ∷ [])
     ((codes "signed.psbt", signed_psbt) ∷ (codes "spaced.psbt", spaced_psbt) ∷ [])
     ≡ prints 9 (lines (codes "psbt refused 1 base64" ∷ []))
-unfolding is_name word_front number_front symbol_front read_answer advert_of_all advert_at entries_at entry_at head_at deposit_at
+unfolding is_name word_prefix number_prefix symbol_prefix read_answer advert_of_all advert_at entries_at entry_at head_at deposit_at
     secret_at fee_at choice_with branches_at branch_at parts_at auth_at after_at put_at reveal_at split_at reveals_at puts_at
     put_reveals_at headed_at one_branch_at condition_at names_from test_at comparison_at formula_at constant_at length_at withdraw_at
     digits label_text stripped marked compact places_list sequences_list outputs_list preimage position_script many wide_at compact_at
@@ -160,7 +160,7 @@ psbt_shown :
     replies small_hash (codes "psbt" ∷ codes "signed.psbt" ∷ [])
     ((codes "signed.psbt", signed_psbt) ∷ [])
     ≡ prints 0 psbt_shown_text
-unfolding is_name word_front number_front symbol_front read_answer advert_of_all advert_at entries_at entry_at head_at deposit_at
+unfolding is_name word_prefix number_prefix symbol_prefix read_answer advert_of_all advert_at entries_at entry_at head_at deposit_at
     secret_at fee_at choice_with branches_at branch_at parts_at auth_at after_at put_at reveal_at split_at reveals_at puts_at
     put_reveals_at headed_at one_branch_at condition_at names_from test_at comparison_at formula_at constant_at length_at withdraw_at
     digits label_text stripped marked compact places_list sequences_list outputs_list preimage position_script many wide_at compact_at
@@ -198,7 +198,7 @@ psbt_shown_of_branch_of_part :
     replies small_hash (codes "psbt" ∷ codes "part.psbt" ∷ [])
     ((codes "part.psbt", part_psbt) ∷ [])
     ≡ prints 0 psbt_shown_of_branch_of_part_text
-unfolding is_name word_front number_front symbol_front read_answer advert_of_all advert_at entries_at entry_at head_at deposit_at
+unfolding is_name word_prefix number_prefix symbol_prefix read_answer advert_of_all advert_at entries_at entry_at head_at deposit_at
     secret_at fee_at choice_with branches_at branch_at parts_at auth_at after_at put_at reveal_at split_at reveals_at puts_at
     put_reveals_at headed_at one_branch_at condition_at names_from test_at comparison_at formula_at constant_at length_at withdraw_at
     digits label_text stripped marked compact places_list sequences_list outputs_list preimage position_script many wide_at compact_at
@@ -261,7 +261,7 @@ psbt_shown_of_branch_that_puts :
     replies small_hash (codes "psbt" ∷ codes "put.psbt" ∷ [])
     ((codes "put.psbt", put_psbt) ∷ [])
     ≡ prints 0 psbt_shown_of_branch_that_puts_text
-unfolding is_name word_front number_front symbol_front read_answer advert_of_all advert_at entries_at entry_at head_at deposit_at
+unfolding is_name word_prefix number_prefix symbol_prefix read_answer advert_of_all advert_at entries_at entry_at head_at deposit_at
     secret_at fee_at choice_with branches_at branch_at parts_at auth_at after_at put_at reveal_at split_at reveals_at puts_at
     put_reveals_at headed_at one_branch_at condition_at names_from test_at comparison_at formula_at constant_at length_at withdraw_at
     digits label_text stripped marked compact places_list sequences_list outputs_list preimage position_script many wide_at compact_at
@@ -315,7 +315,7 @@ psbt_shown_of_three_signers :
     replies small_hash (codes "psbt" ∷ codes "three.psbt" ∷ [])
     ((codes "three.psbt", three_psbt) ∷ [])
     ≡ prints 0 psbt_shown_of_three_signers_text
-unfolding is_name word_front number_front symbol_front read_answer advert_of_all advert_at entries_at entry_at head_at deposit_at
+unfolding is_name word_prefix number_prefix symbol_prefix read_answer advert_of_all advert_at entries_at entry_at head_at deposit_at
     secret_at fee_at choice_with branches_at branch_at parts_at auth_at after_at put_at reveal_at split_at reveals_at puts_at
     put_reveals_at headed_at one_branch_at condition_at names_from test_at comparison_at formula_at constant_at length_at withdraw_at
     digits label_text stripped marked compact places_list sequences_list outputs_list preimage position_script many wide_at compact_at
@@ -334,7 +334,7 @@ psbt_with_another_signature :
     replies small_hash (codes "psbt" ∷ codes "signed.psbt" ∷ codes "other_signature.psbt" ∷ [])
     ((codes "signed.psbt", signed_psbt) ∷ (codes "other_signature.psbt", other_signature_psbt) ∷ [])
     ≡ prints 9 (lines (codes "psbt refused conflict 0" ∷ []))
-unfolding is_name word_front number_front symbol_front read_answer advert_of_all advert_at entries_at entry_at head_at deposit_at
+unfolding is_name word_prefix number_prefix symbol_prefix read_answer advert_of_all advert_at entries_at entry_at head_at deposit_at
     secret_at fee_at choice_with branches_at branch_at parts_at auth_at after_at put_at reveal_at split_at reveals_at puts_at
     put_reveals_at headed_at one_branch_at condition_at names_from test_at comparison_at formula_at constant_at length_at withdraw_at
     digits label_text stripped marked compact places_list sequences_list outputs_list preimage position_script many wide_at compact_at
@@ -353,7 +353,7 @@ psbt_with_byte_behind :
     replies small_hash (codes "psbt" ∷ codes "byte_behind.psbt" ∷ [])
     ((codes "byte_behind.psbt", byte_behind_psbt) ∷ [])
     ≡ prints 9 (lines (codes "psbt refused 0 form" ∷ []))
-unfolding is_name word_front number_front symbol_front read_answer advert_of_all advert_at entries_at entry_at head_at deposit_at
+unfolding is_name word_prefix number_prefix symbol_prefix read_answer advert_of_all advert_at entries_at entry_at head_at deposit_at
     secret_at fee_at choice_with branches_at branch_at parts_at auth_at after_at put_at reveal_at split_at reveals_at puts_at
     put_reveals_at headed_at one_branch_at condition_at names_from test_at comparison_at formula_at constant_at length_at withdraw_at
     digits label_text stripped marked compact places_list sequences_list outputs_list preimage position_script many wide_at compact_at
@@ -382,7 +382,7 @@ psbt_with_foreign_records :
     replies small_hash (codes "psbt" ∷ codes "foreign.psbt" ∷ [])
     ((codes "foreign.psbt", foreign_psbt) ∷ [])
     ≡ prints 0 psbt_with_foreign_records_text
-unfolding is_name word_front number_front symbol_front read_answer advert_of_all advert_at entries_at entry_at head_at deposit_at
+unfolding is_name word_prefix number_prefix symbol_prefix read_answer advert_of_all advert_at entries_at entry_at head_at deposit_at
     secret_at fee_at choice_with branches_at branch_at parts_at auth_at after_at put_at reveal_at split_at reveals_at puts_at
     put_reveals_at headed_at one_branch_at condition_at names_from test_at comparison_at formula_at constant_at length_at withdraw_at
     digits label_text stripped marked compact places_list sequences_list outputs_list preimage position_script many wide_at compact_at
@@ -399,7 +399,7 @@ psbt_with_hash_type_none :
     replies small_hash (codes "psbt" ∷ codes "signed.psbt" ∷ codes "hash_type_none.psbt" ∷ [])
     ((codes "signed.psbt", signed_psbt) ∷ (codes "hash_type_none.psbt", hash_type_none_psbt) ∷ [])
     ≡ prints 9 (lines (codes "psbt refused 1 form" ∷ []))
-unfolding is_name word_front number_front symbol_front read_answer advert_of_all advert_at entries_at entry_at head_at deposit_at
+unfolding is_name word_prefix number_prefix symbol_prefix read_answer advert_of_all advert_at entries_at entry_at head_at deposit_at
     secret_at fee_at choice_with branches_at branch_at parts_at auth_at after_at put_at reveal_at split_at reveals_at puts_at
     put_reveals_at headed_at one_branch_at condition_at names_from test_at comparison_at formula_at constant_at length_at withdraw_at
     digits label_text stripped marked compact places_list sequences_list outputs_list preimage position_script many wide_at compact_at
@@ -416,7 +416,7 @@ psbt_with_repeated_foreign_key :
     replies small_hash (codes "psbt" ∷ codes "repeated_foreign_key.psbt" ∷ [])
     ((codes "repeated_foreign_key.psbt", repeated_foreign_key_psbt) ∷ [])
     ≡ prints 9 (lines (codes "psbt refused 0 form" ∷ []))
-unfolding is_name word_front number_front symbol_front read_answer advert_of_all advert_at entries_at entry_at head_at deposit_at
+unfolding is_name word_prefix number_prefix symbol_prefix read_answer advert_of_all advert_at entries_at entry_at head_at deposit_at
     secret_at fee_at choice_with branches_at branch_at parts_at auth_at after_at put_at reveal_at split_at reveals_at puts_at
     put_reveals_at headed_at one_branch_at condition_at names_from test_at comparison_at formula_at constant_at length_at withdraw_at
     digits label_text stripped marked compact places_list sequences_list outputs_list preimage position_script many wide_at compact_at

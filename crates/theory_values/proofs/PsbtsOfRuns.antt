@@ -12,7 +12,7 @@ use Rattle.spec_bitcoin.specs.Meaning.{script_meaning}
 use Rattle.spec_bitcoin.specs.Numbers.{number_of_item, signed_bytes, item_of_number}
 use Rattle.spec_bitcoin.specs.Scripts.{ops_of}
 use Rattle.spec_compiler.specs.Keyed.Instance.{position_script}
-use Rattle.spec_text.specs.Lexis.{word_front, number_front, symbol_front}
+use Rattle.spec_text.specs.Lexis.{word_prefix, number_prefix, symbol_prefix}
 use Rattle.spec_text.specs.ReadAdvert.{read_answer, advert_of_all, advert_at, entries_at, entry_at, head_at, deposit_at, secret_at, fee_at}
 use Rattle.spec_text.specs.ReadContract.{withdraw_at, condition_at, reveals_at, puts_at, put_reveals_at, headed_at, one_branch_at}
 use Rattle.spec_text.specs.ReadContract.{branches_at, choice_with, parts_at, auth_at, after_at, put_at, reveal_at, split_at, branch_at}
@@ -43,7 +43,7 @@ psbt_not_compiled :
     replies small_hash (codes "psbt" ∷ codes "no_events.run" ∷ codes "withdraw.bitml" ∷ codes "r.0" ∷ [])
     ((codes "no_events.run", no_events_run) ∷ (codes "withdraw.bitml", withdraw_bitml) ∷ [])
     ≡ prints 0 (lines (codes "contract 0 not compiled" ∷ []))
-unfolding is_name word_front number_front symbol_front read_answer advert_of_all advert_at entries_at entry_at head_at deposit_at
+unfolding is_name word_prefix number_prefix symbol_prefix read_answer advert_of_all advert_at entries_at entry_at head_at deposit_at
     secret_at fee_at choice_with branches_at branch_at parts_at auth_at after_at put_at reveal_at split_at reveals_at puts_at
     put_reveals_at headed_at one_branch_at condition_at names_from test_at comparison_at formula_at constant_at length_at withdraw_at
     digits label_text stripped marked compact places_list sequences_list outputs_list preimage position_script many wide_at compact_at
@@ -251,7 +251,7 @@ psbt_of_branch_of_part :
     replies (sha_of psbt_of_branch_of_part_hashes) (codes "psbt" ∷ codes "part.run" ∷ codes "part.bitml" ∷ codes "r.1/1.0.0" ∷ [])
     ((codes "part.run", part_run) ∷ (codes "part.bitml", part_bitml) ∷ [])
     ≡ prints 0 psbt_of_branch_of_part_text
-unfolding is_name word_front number_front symbol_front read_answer advert_of_all advert_at entries_at entry_at head_at deposit_at
+unfolding is_name word_prefix number_prefix symbol_prefix read_answer advert_of_all advert_at entries_at entry_at head_at deposit_at
     secret_at fee_at choice_with branches_at branch_at parts_at auth_at after_at put_at reveal_at split_at reveals_at puts_at
     put_reveals_at headed_at one_branch_at condition_at names_from test_at comparison_at formula_at constant_at length_at withdraw_at
     digits label_text stripped marked compact places_list sequences_list outputs_list preimage position_script many wide_at compact_at
@@ -557,7 +557,7 @@ psbt_of_branch_that_puts :
     replies (sha_of psbt_of_branch_that_puts_hashes) (codes "psbt" ∷ codes "put.run" ∷ codes "put.bitml" ∷ codes "r.1.0.1" ∷ [])
     ((codes "put.run", put_run) ∷ (codes "put.bitml", put_bitml) ∷ [])
     ≡ prints 0 psbt_of_branch_that_puts_text
-unfolding is_name word_front number_front symbol_front read_answer advert_of_all advert_at entries_at entry_at head_at deposit_at
+unfolding is_name word_prefix number_prefix symbol_prefix read_answer advert_of_all advert_at entries_at entry_at head_at deposit_at
     secret_at fee_at choice_with branches_at branch_at parts_at auth_at after_at put_at reveal_at split_at reveals_at puts_at
     put_reveals_at headed_at one_branch_at condition_at names_from test_at comparison_at formula_at constant_at length_at withdraw_at
     digits label_text stripped marked compact places_list sequences_list outputs_list preimage position_script many wide_at compact_at
@@ -569,7 +569,7 @@ psbt_of_no_path :
     replies small_hash (codes "psbt" ∷ codes "no_events.run" ∷ codes "withdraw.bitml" ∷ codes "r.1" ∷ [])
     ((codes "no_events.run", no_events_run) ∷ (codes "withdraw.bitml", withdraw_bitml) ∷ [])
     ≡ prints 0 (lines (codes "contract 0 no path r.1" ∷ []))
-unfolding is_name word_front number_front symbol_front read_answer advert_of_all advert_at entries_at entry_at head_at deposit_at
+unfolding is_name word_prefix number_prefix symbol_prefix read_answer advert_of_all advert_at entries_at entry_at head_at deposit_at
     secret_at fee_at choice_with branches_at branch_at parts_at auth_at after_at put_at reveal_at split_at reveals_at puts_at
     put_reveals_at headed_at one_branch_at condition_at names_from test_at comparison_at formula_at constant_at length_at withdraw_at
     digits label_text stripped marked compact places_list sequences_list outputs_list preimage position_script many wide_at compact_at
@@ -631,7 +631,7 @@ psbt_of_signed_start :
     replies (sha_of psbt_of_signed_start_hashes) (codes "psbt" ∷ codes "signed.run" ∷ codes "withdraw.bitml" ∷ codes "init" ∷ [])
     ((codes "signed.run", signed_run) ∷ (codes "withdraw.bitml", withdraw_bitml) ∷ [])
     ≡ prints 0 psbt_of_signed_start_text
-unfolding is_name word_front number_front symbol_front read_answer advert_of_all advert_at entries_at entry_at head_at deposit_at
+unfolding is_name word_prefix number_prefix symbol_prefix read_answer advert_of_all advert_at entries_at entry_at head_at deposit_at
     secret_at fee_at choice_with branches_at branch_at parts_at auth_at after_at put_at reveal_at split_at reveals_at puts_at
     put_reveals_at headed_at one_branch_at condition_at names_from test_at comparison_at formula_at constant_at length_at withdraw_at
     digits label_text stripped marked compact places_list sequences_list outputs_list preimage position_script many wide_at compact_at
@@ -826,7 +826,7 @@ psbt_of_three_signers :
     replies (sha_of psbt_of_three_signers_hashes) (codes "psbt" ∷ codes "three.run" ∷ codes "three.bitml" ∷ codes "r.0.2" ∷ [])
     ((codes "three.run", three_run) ∷ (codes "three.bitml", three_bitml) ∷ [])
     ≡ prints 0 psbt_of_three_signers_text
-unfolding is_name word_front number_front symbol_front read_answer advert_of_all advert_at entries_at entry_at head_at deposit_at
+unfolding is_name word_prefix number_prefix symbol_prefix read_answer advert_of_all advert_at entries_at entry_at head_at deposit_at
     secret_at fee_at choice_with branches_at branch_at parts_at auth_at after_at put_at reveal_at split_at reveals_at puts_at
     put_reveals_at headed_at one_branch_at condition_at names_from test_at comparison_at formula_at constant_at length_at withdraw_at
     digits label_text stripped marked compact places_list sequences_list outputs_list preimage position_script many wide_at compact_at
@@ -886,7 +886,7 @@ psbt_of_unsigned_start :
     replies (sha_of psbt_of_unsigned_start_hashes) (codes "psbt" ∷ codes "endorsed.run" ∷ codes "withdraw.bitml" ∷ codes "init" ∷ [])
     ((codes "endorsed.run", endorsed_run) ∷ (codes "withdraw.bitml", withdraw_bitml) ∷ [])
     ≡ prints 0 psbt_of_unsigned_start_text
-unfolding is_name word_front number_front symbol_front read_answer advert_of_all advert_at entries_at entry_at head_at deposit_at
+unfolding is_name word_prefix number_prefix symbol_prefix read_answer advert_of_all advert_at entries_at entry_at head_at deposit_at
     secret_at fee_at choice_with branches_at branch_at parts_at auth_at after_at put_at reveal_at split_at reveals_at puts_at
     put_reveals_at headed_at one_branch_at condition_at names_from test_at comparison_at formula_at constant_at length_at withdraw_at
     digits label_text stripped marked compact places_list sequences_list outputs_list preimage position_script many wide_at compact_at
@@ -935,7 +935,7 @@ psbt_of_withdrawal :
     replies (sha_of psbt_of_withdrawal_hashes) (codes "psbt" ∷ codes "endorsed.run" ∷ codes "withdraw.bitml" ∷ codes "r.0" ∷ [])
     ((codes "endorsed.run", endorsed_run) ∷ (codes "withdraw.bitml", withdraw_bitml) ∷ [])
     ≡ prints 0 psbt_of_withdrawal_text
-unfolding is_name word_front number_front symbol_front read_answer advert_of_all advert_at entries_at entry_at head_at deposit_at
+unfolding is_name word_prefix number_prefix symbol_prefix read_answer advert_of_all advert_at entries_at entry_at head_at deposit_at
     secret_at fee_at choice_with branches_at branch_at parts_at auth_at after_at put_at reveal_at split_at reveals_at puts_at
     put_reveals_at headed_at one_branch_at condition_at names_from test_at comparison_at formula_at constant_at length_at withdraw_at
     digits label_text stripped marked compact places_list sequences_list outputs_list preimage position_script many wide_at compact_at

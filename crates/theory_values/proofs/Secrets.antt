@@ -12,7 +12,7 @@ use Rattle.spec_bitcoin.specs.Meaning.{script_meaning}
 use Rattle.spec_bitcoin.specs.Numbers.{number_of_item, signed_bytes, item_of_number}
 use Rattle.spec_bitcoin.specs.Scripts.{ops_of}
 use Rattle.spec_compiler.specs.Keyed.Instance.{position_script}
-use Rattle.spec_text.specs.Lexis.{word_front, number_front, symbol_front}
+use Rattle.spec_text.specs.Lexis.{word_prefix, number_prefix, symbol_prefix}
 use Rattle.spec_text.specs.ReadAdvert.{read_answer, advert_of_all, advert_at, entries_at, entry_at, head_at, deposit_at, secret_at, fee_at}
 use Rattle.spec_text.specs.ReadContract.{withdraw_at, condition_at, reveals_at, puts_at, put_reveals_at, headed_at, one_branch_at}
 use Rattle.spec_text.specs.ReadContract.{branches_at, choice_with, parts_at, auth_at, after_at, put_at, reveal_at, split_at, branch_at}
@@ -75,7 +75,7 @@ dishonest_secret_is_never_posted :
     ((codes "dishonest_secret_is_never_posted.run", dishonest_secret_is_never_posted_run)
     ∷ (codes "two_secrets.bitml", two_secrets_bitml) ∷ [])
     ≡ prints 0 dishonest_secret_is_never_posted_text
-unfolding is_name word_front number_front symbol_front read_answer advert_of_all advert_at entries_at entry_at head_at deposit_at
+unfolding is_name word_prefix number_prefix symbol_prefix read_answer advert_of_all advert_at entries_at entry_at head_at deposit_at
     secret_at fee_at choice_with branches_at branch_at parts_at auth_at after_at put_at reveal_at split_at reveals_at puts_at
     put_reveals_at headed_at one_branch_at condition_at names_from test_at comparison_at formula_at constant_at length_at withdraw_at
     digits label_text stripped marked compact places_list sequences_list outputs_list preimage position_script many wide_at compact_at
@@ -174,7 +174,7 @@ dishonest_secret_is_posted_later :
     ((codes "dishonest_secret_is_posted_later.run", dishonest_secret_is_posted_later_run)
     ∷ (codes "two_secrets.bitml", two_secrets_bitml) ∷ [])
     ≡ prints 0 dishonest_secret_is_posted_later_text
-unfolding is_name word_front number_front symbol_front read_answer advert_of_all advert_at entries_at entry_at head_at deposit_at
+unfolding is_name word_prefix number_prefix symbol_prefix read_answer advert_of_all advert_at entries_at entry_at head_at deposit_at
     secret_at fee_at choice_with branches_at branch_at parts_at auth_at after_at put_at reveal_at split_at reveals_at puts_at
     put_reveals_at headed_at one_branch_at condition_at names_from test_at comparison_at formula_at constant_at length_at withdraw_at
     digits label_text stripped marked compact places_list sequences_list outputs_list preimage position_script many wide_at compact_at
@@ -235,7 +235,7 @@ copied_commitment :
     replies (sha_of copied_commitment_hashes) (codes "play" ∷ codes "copied_commitment.run" ∷ codes "two_secrets.bitml" ∷ [])
     ((codes "copied_commitment.run", copied_commitment_run) ∷ (codes "two_secrets.bitml", two_secrets_bitml) ∷ [])
     ≡ prints 0 copied_commitment_text
-unfolding is_name word_front number_front symbol_front read_answer advert_of_all advert_at entries_at entry_at head_at deposit_at
+unfolding is_name word_prefix number_prefix symbol_prefix read_answer advert_of_all advert_at entries_at entry_at head_at deposit_at
     secret_at fee_at choice_with branches_at branch_at parts_at auth_at after_at put_at reveal_at split_at reveals_at puts_at
     put_reveals_at headed_at one_branch_at condition_at names_from test_at comparison_at formula_at constant_at length_at withdraw_at
     digits label_text stripped marked compact places_list sequences_list outputs_list preimage position_script many wide_at compact_at
@@ -295,7 +295,7 @@ longest_secret :
     replies small_hash (codes "play" ∷ codes "longest_secret.run" ∷ codes "one_secret.bitml" ∷ [])
     ((codes "longest_secret.run", longest_secret_run) ∷ (codes "one_secret.bitml", one_secret_bitml) ∷ [])
     ≡ prints 0 longest_secret_text
-unfolding is_name word_front number_front symbol_front read_answer advert_of_all advert_at entries_at entry_at head_at deposit_at
+unfolding is_name word_prefix number_prefix symbol_prefix read_answer advert_of_all advert_at entries_at entry_at head_at deposit_at
     secret_at fee_at choice_with branches_at branch_at parts_at auth_at after_at put_at reveal_at split_at reveals_at puts_at
     put_reveals_at headed_at one_branch_at condition_at names_from test_at comparison_at formula_at constant_at length_at withdraw_at
     digits label_text stripped marked compact places_list sequences_list outputs_list preimage position_script many wide_at compact_at
@@ -342,7 +342,7 @@ shortest_secret :
     replies small_hash (codes "play" ∷ codes "shortest_secret.run" ∷ codes "one_secret.bitml" ∷ [])
     ((codes "shortest_secret.run", shortest_secret_run) ∷ (codes "one_secret.bitml", one_secret_bitml) ∷ [])
     ≡ prints 0 shortest_secret_text
-unfolding is_name word_front number_front symbol_front read_answer advert_of_all advert_at entries_at entry_at head_at deposit_at
+unfolding is_name word_prefix number_prefix symbol_prefix read_answer advert_of_all advert_at entries_at entry_at head_at deposit_at
     secret_at fee_at choice_with branches_at branch_at parts_at auth_at after_at put_at reveal_at split_at reveals_at puts_at
     put_reveals_at headed_at one_branch_at condition_at names_from test_at comparison_at formula_at constant_at length_at withdraw_at
     digits label_text stripped marked compact places_list sequences_list outputs_list preimage position_script many wide_at compact_at
@@ -396,7 +396,7 @@ secret_is_too_long :
     replies small_hash (codes "play" ∷ codes "secret_is_too_long.run" ∷ codes "one_secret.bitml" ∷ [])
     ((codes "secret_is_too_long.run", secret_is_too_long_run) ∷ (codes "one_secret.bitml", one_secret_bitml) ∷ [])
     ≡ prints 0 secret_is_too_long_text
-unfolding is_name word_front number_front symbol_front read_answer advert_of_all advert_at entries_at entry_at head_at deposit_at
+unfolding is_name word_prefix number_prefix symbol_prefix read_answer advert_of_all advert_at entries_at entry_at head_at deposit_at
     secret_at fee_at choice_with branches_at branch_at parts_at auth_at after_at put_at reveal_at split_at reveals_at puts_at
     put_reveals_at headed_at one_branch_at condition_at names_from test_at comparison_at formula_at constant_at length_at withdraw_at
     digits label_text stripped marked compact places_list sequences_list outputs_list preimage position_script many wide_at compact_at
@@ -441,7 +441,7 @@ secret_is_too_short :
     replies small_hash (codes "play" ∷ codes "secret_is_too_short.run" ∷ codes "one_secret.bitml" ∷ [])
     ((codes "secret_is_too_short.run", secret_is_too_short_run) ∷ (codes "one_secret.bitml", one_secret_bitml) ∷ [])
     ≡ prints 0 secret_is_too_short_text
-unfolding is_name word_front number_front symbol_front read_answer advert_of_all advert_at entries_at entry_at head_at deposit_at
+unfolding is_name word_prefix number_prefix symbol_prefix read_answer advert_of_all advert_at entries_at entry_at head_at deposit_at
     secret_at fee_at choice_with branches_at branch_at parts_at auth_at after_at put_at reveal_at split_at reveals_at puts_at
     put_reveals_at headed_at one_branch_at condition_at names_from test_at comparison_at formula_at constant_at length_at withdraw_at
     digits label_text stripped marked compact places_list sequences_list outputs_list preimage position_script many wide_at compact_at
@@ -496,7 +496,7 @@ posted_string_is_no_secret :
     replies small_hash (codes "play" ∷ codes "posted_string_is_no_secret.run" ∷ codes "two_secrets.bitml" ∷ [])
     ((codes "posted_string_is_no_secret.run", posted_string_is_no_secret_run) ∷ (codes "two_secrets.bitml", two_secrets_bitml) ∷ [])
     ≡ prints 0 posted_string_is_no_secret_text
-unfolding is_name word_front number_front symbol_front read_answer advert_of_all advert_at entries_at entry_at head_at deposit_at
+unfolding is_name word_prefix number_prefix symbol_prefix read_answer advert_of_all advert_at entries_at entry_at head_at deposit_at
     secret_at fee_at choice_with branches_at branch_at parts_at auth_at after_at put_at reveal_at split_at reveals_at puts_at
     put_reveals_at headed_at one_branch_at condition_at names_from test_at comparison_at formula_at constant_at length_at withdraw_at
     digits label_text stripped marked compact places_list sequences_list outputs_list preimage position_script many wide_at compact_at
@@ -579,7 +579,7 @@ secret_is_revealed :
     replies small_hash (codes "play" ∷ codes "secret_is_revealed.run" ∷ codes "timed_commitment.bitml" ∷ [])
     ((codes "secret_is_revealed.run", secret_is_revealed_run) ∷ (codes "timed_commitment.bitml", timed_commitment_bitml) ∷ [])
     ≡ prints 0 secret_is_revealed_text
-unfolding is_name word_front number_front symbol_front read_answer advert_of_all advert_at entries_at entry_at head_at deposit_at
+unfolding is_name word_prefix number_prefix symbol_prefix read_answer advert_of_all advert_at entries_at entry_at head_at deposit_at
     secret_at fee_at choice_with branches_at branch_at parts_at auth_at after_at put_at reveal_at split_at reveals_at puts_at
     put_reveals_at headed_at one_branch_at condition_at names_from test_at comparison_at formula_at constant_at length_at withdraw_at
     digits label_text stripped marked compact places_list sequences_list outputs_list preimage position_script many wide_at compact_at
@@ -698,7 +698,7 @@ lottery_is_played :
     replies small_hash (codes "play" ∷ codes "lottery_is_played.run" ∷ codes "lottery.bitml" ∷ [])
     ((codes "lottery_is_played.run", lottery_is_played_run) ∷ (codes "lottery.bitml", lottery_bitml) ∷ [])
     ≡ prints 0 lottery_is_played_text
-unfolding is_name word_front number_front symbol_front read_answer advert_of_all advert_at entries_at entry_at head_at deposit_at
+unfolding is_name word_prefix number_prefix symbol_prefix read_answer advert_of_all advert_at entries_at entry_at head_at deposit_at
     secret_at fee_at choice_with branches_at branch_at parts_at auth_at after_at put_at reveal_at split_at reveals_at puts_at
     put_reveals_at headed_at one_branch_at condition_at names_from test_at comparison_at formula_at constant_at length_at withdraw_at
     digits label_text stripped marked compact places_list sequences_list outputs_list preimage position_script many wide_at compact_at

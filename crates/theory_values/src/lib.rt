@@ -1,4 +1,5 @@
-//! What the program answers to the words and files of worked runs, worked out on the definitions by the kernel.
+//! Test vectors of the program: words and files of runs and what the definitions answer, computed by the kernel. The
+//! expected texts come from another implementation.
 #![tactic(auto)]
 
 ghost use Rattle.theory_values.specs.EveryEvent.{EveryEventIsPlayed};

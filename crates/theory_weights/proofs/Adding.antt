@@ -18,15 +18,15 @@ use Rattle.theory_weights.proofs.Bounded.{entry_is}
 -- ---- the way
 
 way_is : (path to : List PathStep) → (is_on_way path to ≡ true) ↔ GoesOnFrom path to
-way_is path to = (goes_on, is_front)
+way_is path to = (goes_on, is_prefix)
   where
     goes_on : is_on_way path to ≡ true → GoesOnFrom path to
     goes_on h =
         let e = (path_eq-Decides path (take (length path) to)).0 h in
         record { more = drop (length path) to; is = sym (take-append-drop (length path) to) ∙ ap (λ q. q ++ drop (length path) to) (sym e) }
 
-    is_front : GoesOnFrom path to → is_on_way path to ≡ true
-    is_front g =
+    is_prefix : GoesOnFrom path to → is_on_way path to ≡ true
+    is_prefix g =
         (path_eq-Decides path (take (length path) to)).1 (sym (take-append_seam path g.more) ∙ ap (take (length path)) (sym g.is))
 
 -- ---- sums

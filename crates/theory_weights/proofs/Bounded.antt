@@ -40,8 +40,18 @@ path_bounds advert path d some = record {
     least = weight_grows (tx_of d) (any_full advert path least_secret_bytes d) ws (least_no_longer advert path d ws h);
     most = weight_grows (tx_of d) ws (any_full advert path most_item_bytes d) (most_no_shorter advert path d ws h);
   };
-  least = record { witnesses = any_full advert path least_secret_bytes d; fills = path_any advert path least_secret_bytes d some (omega arith) (omega arith); weighs = refl };
-  most = record { witnesses = any_full advert path most_item_bytes d; fills = path_any advert path most_item_bytes d some (omega arith) (omega arith); weighs = refl };
+  least = record {
+    witnesses = any_full advert path least_secret_bytes d;
+    fills = path_any advert path least_secret_bytes d some
+        (omega arith) (omega arith);
+    weighs = refl;
+  };
+  most = record {
+    witnesses = any_full advert path most_item_bytes d;
+    fills = path_any advert path most_item_bytes d some (omega arith)
+        (omega arith);
+    weighs = refl;
+  };
 }
 
 -- ---- the list of all

@@ -71,7 +71,8 @@ module _ (hash : List ℕ → List ℕ) (s : Instance) where
   one_up here i b (Into k) (at_position h c) e = cc
   one_up here i b (To j) (at_branch h n w) e = by_next (continued_end hash s h n w (core w)) e
     where
-      by_branch : (h' : Standing) (c : Contract) (o : Option term.Guarded) → option_map (at_branch h' j) o ≡ Some (at_branch here i b) → IsUp here (Some (h', c))
+      by_branch : (h' : Standing) (c : Contract) (o : Option term.Guarded) → option_map (at_branch h' j) o ≡ Some (at_branch here i b)
+          → IsUp here (Some (h', c))
       by_branch h' c None q = cc
       by_branch h' c (Some b') q = let z : h' ≡ here = cc in (c, ap (λ (x : Standing). Some (x, c)) z)
 
@@ -81,7 +82,8 @@ module _ (hash : List ℕ → List ℕ) (s : Instance) where
       by_next (Some p) q = by_branch p.0 p.1 (slice_get (branches p.1) j) q
   one_up here i b (Into k) (at_branch h n w) e = by_core (core w) e
     where
-      by_part : (o : Option (ℕ × Contract)) (f : ℕ × Contract → Standing) → option_map (λ (p : ℕ × Contract). at_position (f p) p.1) o ≡ Some (at_branch here i b) → ⊥
+      by_part : (o : Option (ℕ × Contract)) (f : ℕ × Contract → Standing) → option_map (λ (p : ℕ × Contract). at_position (f p) p.1) o
+          ≡ Some (at_branch here i b) → ⊥
       by_part None f q = cc
       by_part (Some p) f q = cc
 

@@ -37,10 +37,10 @@ use Rattle.spec_run.specs.World.{ContractPosition, World, live_position_at}
 use Rattle.spec_run.specs.Compiled.{compiled_instance}
 use Rattle.spec_run.specs.Revealing.{fits}
 use Rattle.spec_run.specs.Committing.{is_secret_long}
-use Rattle.spec_run.specs.Draft.{unless}
+use Rattle.spec_run.specs.Pending.{unless}
 use Rattle.spec_run.specs.Ledger.{verdict_in, judged, contract_in, count_of, position_path, position_branch, branch_in}
 use Rattle.spec_run.specs.Firing.{with_witnesses, deposit_witnesses, initial_witnesses, initial_transaction, initial_by, reaches_if}
-use Rattle.spec_run.specs.Firing.{fire_init_row, fire_init_draft, fire_row, fire_draft, unknown_at, unknown_secret, first_unshown, shown_string, shown_strings}
+use Rattle.spec_run.specs.Firing.{fire_init_row, fire_init_pending, fire_row, fire_pending, unknown_at, unknown_secret, first_unshown, shown_string, shown_strings}
 use Rattle.spec_run.specs.Firing.{branch_signatures, branch_witness, taking_witnesses, taking_transaction, taking_of_parts, taking_of_position, position_instance}
 use Rattle.spec_run.specs.Signing.{prepared_if_compiled, branch_if_live}
 use Rattle.spec_tool.specs.Weights.{deposits_full, last_branch, position_of, choices_at, reveal_count}
@@ -173,7 +173,7 @@ initial_full s size st =
       is = refl;
     }
 
-pub initial_filled : (s : Setup) → IsHash s.hash → (w : World) (contract : ℕ) (tx : Tx) → (fire_init_draft s w contract).tx ≡ Some tx
+pub initial_filled : (s : Setup) → IsHash s.hash → (w : World) (contract : ℕ) (tx : Tx) → (fire_init_pending s w contract).tx ≡ Some tx
     → InitialFilled s w contract tx
 initial_filled s size w contract tx h =
     by_compiled (compiled_instance s w contract) refl
@@ -324,7 +324,7 @@ module _ (s : Setup) (size : IsHash s.hash) (g : Configuration) (w : World) (kep
         };
       }
 
-  pub path_filled : (tx : Tx) → (fire_draft s w n i).tx ≡ Some tx → PathFilled s w held.contract (position_path held i) tx
+  pub path_filled : (tx : Tx) → (fire_pending s w n i).tx ≡ Some tx → PathFilled s w held.contract (position_path held i) tx
   path_filled tx h =
       let r = reached s w (first_reason (fire_row s w n i)) (taking_of_position s w (live_position_at w n) i) tx h in
       let row = no_reason-none_true (fire_row s w n i) r.none in

@@ -106,7 +106,8 @@ module _ (advert : Advert) (path : List PathStep) (d : Unsigned) (witnesses : Li
       let c = full.other_count in
       let e = any_count all in
       subst (λ ws. AllNoLonger (any_full advert path least_secret_bytes d) ws) (sym full.same)
-      (branch_alike advert path (any_signatures people) full.signatures (any_secrets advert path least_secret_bytes) full.secrets (any_signatures all) full.others d.spends
+      (branch_alike advert path (any_signatures people) full.signatures (any_secrets advert path least_secret_bytes) full.secrets
+      (any_signatures all) full.others d.spends
       (signatures_alike (any_signatures people) full.signatures (any_are_signatures people) full.each_signature (any_count people ∙ sym full.signature_count))
       (no_longer_than (reveal_count advert path) least_secret_bytes full.secrets
       (each_weaker IsSecret (λ x. least_secret_bytes ≤ length x) (λ x h. h.long) full.secrets full.each_secret) full.secret_count)
@@ -118,7 +119,8 @@ module _ (advert : Advert) (path : List PathStep) (d : Unsigned) (witnesses : Li
       let c = full.other_count in
       let e = any_count all in
       subst (λ ws. AllNoLonger ws (any_full advert path most_item_bytes d)) (sym full.same)
-      (branch_alike advert path full.signatures (any_signatures people) full.secrets (any_secrets advert path most_item_bytes) full.others (any_signatures all) d.spends
+      (branch_alike advert path full.signatures (any_signatures people) full.secrets (any_secrets advert path most_item_bytes) full.others
+      (any_signatures all) d.spends
       (signatures_alike full.signatures (any_signatures people) full.each_signature (any_are_signatures people) (full.signature_count ∙ sym (any_count people)))
       (no_shorter_than (reveal_count advert path) most_item_bytes full.secrets
       (each_weaker IsSecret (λ x. length x ≤ most_item_bytes) (λ x h. h.short) full.secrets full.each_secret) full.secret_count)
@@ -141,7 +143,8 @@ initial_alike d witnesses full =
 -- ---- what is reached
 
 pub initial_any : (d : Unsigned) → IsInitialFull d (deposits_full (any_signatures (length d.spends)) d.spends)
-initial_any d = record { signatures = any_signatures (length d.spends); each = any_are_signatures (length d.spends); count = any_count (length d.spends); same = refl }
+initial_any d =
+    record { signatures = any_signatures (length d.spends); each = any_are_signatures (length d.spends); count = any_count (length d.spends); same = refl }
 
 -- a signature too many changes nothing
 one_too_many : (x : List ℕ) (n : ℕ) (spends : List Spent) → length spends ≤ n

@@ -25,7 +25,8 @@ pub count_is : (n : ℕ) → length (compact n) ≡ count_bytes n
 unfolding compact
 count_is n = by_tests (nat_lt n 253) (nat_lt n (2 ^ 16)) (nat_lt n (2 ^ 32))
   where
-    by_tests : (a b c : Bool) → length (if a then n ∷ [] else (if b then 253 ∷ to_le_bytes w16 n else (if c then 254 ∷ to_le_bytes w32 n else 255 ∷ to_le_bytes w64 n)))
+    by_tests : (a b c : Bool) → length (if a then n
+        ∷ [] else (if b then 253 ∷ to_le_bytes w16 n else (if c then 254 ∷ to_le_bytes w32 n else 255 ∷ to_le_bytes w64 n)))
         ≡ (if a then 1 else (if b then 3 else (if c then 5 else 9)))
     by_tests true b c = refl
     by_tests false true c = refl
@@ -142,7 +143,8 @@ pub stripped_same : (tx : Tx) (ws : List (List (List ℕ))) → stripped (with_w
 stripped_same tx ws = sym (stripped_bare (with_witnesses tx ws)) ∙ ap stripped (with-bare tx ws) ∙ stripped_bare tx
 
 pub marked_size : (tx : Tx) (ws : List (List (List ℕ))) → length (marked (with_witnesses tx ws))
-    ≡ length (word tx.version) + 2 + length (inputs_bytes tx.inputs) + length (outputs_bytes tx.outputs) + length (witnesses_bytes (witnessed tx.inputs ws)) + length (word tx.lock)
+    ≡ length (word tx.version) + 2 + length (inputs_bytes tx.inputs) + length (outputs_bytes tx.outputs) + length
+    (witnesses_bytes (witnessed tx.inputs ws)) + length (word tx.lock)
 unfolding marked
 marked_size tx ws =
     let is = witnessed tx.inputs ws in

@@ -18,7 +18,7 @@ use Rattle.spec_run.specs.World.{ContractPosition, World, live_position_at}
 use Rattle.spec_run.specs.Compiled.{compiled_instance}
 use Rattle.spec_run.specs.Conditions.{IsSetup}
 use Rattle.spec_run.specs.Ledger.{position_path}
-use Rattle.spec_run.specs.Event.{draft, opening_world}
+use Rattle.spec_run.specs.Event.{pending, opening_world}
 use Rattle.spec_run.specs.Translation.{Turn, record_in, course, last_or, last_world, opening_configuration}
 use Rattle.spec_run.specs.Statements.{Claim, HoldsFrom, HoldsThroughout, IsRun}
 use Rattle.spec_tool.specs.declared.weight.Weight.{Weight}
@@ -54,8 +54,8 @@ keeps_filled s setup z = record {
       let book = k.books.book in
       let later = grows s g w book e in
       let filled : TurnFilled s w _ = record {
-        initial = λ contract tx q h. initial_filled s setup.hash.size w contract tx (sym (ap (λ x. (draft s w x).tx) q) ∙ h);
-        path = λ n i held tx q live h. path_filled s setup.hash.size g w book n i held live tx (sym (ap (λ x. (draft s w x).tx) q) ∙ h);
+        initial = λ contract tx q h. initial_filled s setup.hash.size w contract tx (sym (ap (λ x. (pending s w x).tx) q) ∙ h);
+        path = λ n i held tx q live h. path_filled s setup.hash.size g w book n i held live tx (sym (ap (λ x. (pending s w x).tx) q) ∙ h);
         stays = later.compiled;
       } in (filled, run_after s setup z g w k e is calm unguessed begins);
 }
@@ -127,7 +127,8 @@ module _ (s : Setup) (es : List Event) (run : IsRun s es) (contract : ℕ) (st :
       let fill : Filled (IsPathFull st.advert path d) (tx_of d) tx =
       subst (λ (x : Unsigned). Filled (IsPathFull st.advert path x) (tx_of x) tx) made
       (subst (λ (x : Instance). Filled (IsPathFull x.advert path filled.made) (tx_of filled.made) tx) same filled.filled) in
-      filled_within (IsPathFull st.advert path d) (tx_of d) tx (path_weight st.advert path d) (path_bounds st.advert path d (spends_some s.hash st path d there)) fill
+      filled_within (IsPathFull st.advert path d) (tx_of d) tx (path_weight st.advert path d)
+      (path_bounds st.advert path d (spends_some s.hash st path d there)) fill
 
   -- the weights of those on the way are added, one after another
   adds_up : (to : List PathStep) (ps : List (List PathStep × Unsigned)) → AreRight (unsigned_at s.hash st) ps → (txs : List Tx) (sum : Weight) (a : ℕ)

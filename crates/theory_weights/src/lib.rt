@@ -1,4 +1,5 @@
-//! What follows of the weights of a contract's transactions: each theorem is the contract of a function that does nothing.
+//! Theorems on weights: what a transaction weighs is between the least and the greatest that `weigh` tells, and both
+//! are reached. Each is the contract of a function that does nothing.
 #![tactic(auto)]
 
 ghost use Rattle.theory_weights.specs.Bounds.{WeightsAreBounds};

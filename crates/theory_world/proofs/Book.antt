@@ -9,7 +9,7 @@ use Rattle.spec_bitcoin.specs.Keys.{Pair, label_text, key_of, has_signed, is_val
 use Rattle.spec_run.specs.Signing.{signed, signed_all}
 use Rattle.theory_calculus.proofs.Names.{bytes-true, bytes_refl}
 use Rattle.theory_world.proofs.Tests.{any-append}
-use Rattle.theory_world.specs.KeptApart.{NoClash}
+use Rattle.theory_world.specs.KeptApart.{NoCollision}
 
 pub signed-append : (xs ys : List Pair) (k d : List ℕ) → has_signed (xs ++ ys) k d ≡ (has_signed xs k d || has_signed ys k d)
 signed-append xs ys k d = any-append (λ p. bytes_eq p.0 k && bytes_eq p.1 d) xs ys
@@ -26,9 +26,11 @@ one_new book p = by_test (has_signed book (p.0) (p.1)) refl
   where
     by_test : (b : Bool) → has_signed book (p.0) (p.1) ≡ b → has_signed (if b then book else book ++ p ∷ []) (p.0) (p.1) ≡ true
     by_test true e = e
-    by_test false e = signed-append book (p ∷ []) (p.0) (p.1) ∙ or_right (has_signed book (p.0) (p.1)) _ (or_left _ _ (and_from _ _ (bytes_refl (p.0)) (bytes_refl (p.1))))
+    by_test false e =
+        signed-append book (p ∷ []) (p.0) (p.1) ∙ or_right (has_signed book (p.0) (p.1)) _ (or_left _ _ (and_from _ _ (bytes_refl (p.0)) (bytes_refl (p.1))))
 
-one_back : (book : List Pair) (p : Pair) (k d : List ℕ) → has_signed (signed book p) k d ≡ true → (has_signed book k d ≡ true) ⊎ (has_signed (p ∷ []) k d ≡ true)
+one_back : (book : List Pair) (p : Pair) (k d : List ℕ) → has_signed (signed book p) k d ≡ true
+    → (has_signed book k d ≡ true) ⊎ (has_signed (p ∷ []) k d ≡ true)
 one_back book p k d h = by_test (has_signed book (p.0) (p.1)) h
   where
     by_test : (b : Bool) → has_signed (if b then book else book ++ p ∷ []) k d ≡ true → (has_signed book k d ≡ true) ⊎ (has_signed (p ∷ []) k d ≡ true)
@@ -55,7 +57,8 @@ signed_new book (p ∷ ps) k d h = elim (or_cases (bytes_eq p.0 k && bytes_eq p.
       let q = and_parts (bytes_eq p.0 k) (bytes_eq p.1 d) a in
       let x = bytes-true p.0 k q.0 in
       let y = bytes-true p.1 d q.1 in
-      signed_more (signed book p) ps k d (subst (λ v. has_signed (signed book p) k v ≡ true) y (subst (λ v. has_signed (signed book p) v (p.1) ≡ true) x (one_new book p)))
+      signed_more (signed book p) ps k d (subst (λ v. has_signed (signed book p) k v ≡ true) y
+      (subst (λ v. has_signed (signed book p) v (p.1) ≡ true) x (one_new book p)))
   | inr b ↦ signed_new (signed book p) ps k d b
 ]
 
@@ -64,7 +67,8 @@ pub valid_signed : (book : List Pair) (digest signature key : List ℕ) → is_v
 valid_signed book digest signature key h = (and_parts (bytes_eq signature (signature_of key digest)) (has_signed book key digest) h).1
 
 -- keys are told apart by the texts of their labels
-pub key-apart : (hash : List ℕ → List ℕ) (hs : List (List ℕ)) (l m : Label) → NoClash hash hs → is_among (label_text l) hs ≡ true → is_among (label_text m) hs ≡ true → key_of hash l ≡ key_of hash m → label_text l ≡ label_text m
+pub key-apart : (hash : List ℕ → List ℕ) (hs : List (List ℕ)) (l m : Label) → NoCollision hash hs → is_among (label_text l) hs ≡ true
+    → is_among (label_text m) hs ≡ true → key_of hash l ≡ key_of hash m → label_text l ≡ label_text m
 key-apart hash hs l m clear hl hm e =
     let f : hash (label_text l) ≡ hash (label_text m) = cc in
     clear.one (label_text l) (label_text m) hl hm f

@@ -24,20 +24,24 @@ module _ (s : Setup) (w : World) (book : List Pair) (hashed : List (List ℕ)) w
 
   pub initial_same : (tx : Tx) (k : ℕ) (cs : List Advert) → initial_from s other tx k cs ≡ initial_from s w tx k cs
   initial_same tx k [] = refl
-  initial_same tx k (c ∷ cs) = ap (λ o. if is_initial s tx o then Some k else initial_from s other tx (k + 1) cs) (compiled_same k) ∙ ap (λ r. if is_initial s tx (compiled_instance s w k) then Some k else r) (initial_same tx (k + 1) cs)
+  initial_same tx k (c ∷ cs) =
+      ap (λ o. if is_initial s tx o then Some k else initial_from s other tx (k + 1) cs) (compiled_same k)
+      ∙ ap (λ r. if is_initial s tx (compiled_instance s w k) then Some k else r) (initial_same tx (k + 1) cs)
 
   held_same : (spent : List ℕ) → first_position other spent ≡ first_position w spent
   held_same [] = refl
   held_same (n ∷ ns) = refl
 
   pub kind_same : (tx : Tx) (spent : List ℕ) → kind_of s other tx spent ≡ kind_of s w tx spent
-  kind_same tx spent = ap (λ o. kind_by s tx spent o (first_position other spent)) (initial_same tx 0 s.contracts) ∙ ap (kind_by s tx spent (initial_of s w tx)) (held_same spent)
+  kind_same tx spent = ap (λ o. kind_by s tx spent o (first_position other spent)) (initial_same tx 0 s.contracts)
+      ∙ ap (kind_by s tx spent (initial_of s w tx)) (held_same spent)
 
   by_kind : (g : Configuration) (tx : Tx) (spent : List ℕ) (k : Kind) → kind_steps s g other tx spent k ≡ kind_steps s g w tx spent k
   by_kind g tx spent (Begins k) = refl
   by_kind g tx spent (Takes h n i) = refl
   by_kind g tx spent Moves = refl
 
-  pub steps_same : (g : Configuration) (next : World) (spent : List ℕ) (o : Option Tx) → accepted_steps s g other next spent o ≡ accepted_steps s g w next spent o
+  pub steps_same : (g : Configuration) (next : World) (spent : List ℕ) (o : Option Tx) → accepted_steps s g other next spent o
+      ≡ accepted_steps s g w next spent o
   steps_same g next spent None = refl
   steps_same g next spent (Some tx) = let e = ap (kind_steps s g other tx spent) (kind_same tx spent) ∙ by_kind g tx spent (kind_of s w tx spent) in rw e refl

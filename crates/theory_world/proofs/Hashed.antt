@@ -6,10 +6,10 @@ use Rattle.std.specs.Option.{option_or}
 use Rattle.std.specs.Str.{bytes_eq}
 use Rattle.std.proofs.lemmas.Bool.{or_left, or_right, or_cases}
 use Rattle.spec_data.specs.Lists.{is_among}
-use Rattle.spec_data.specs.Messages.{noted, noted_all, is_twin, clash, collision}
+use Rattle.spec_data.specs.Messages.{noted, noted_all, is_twin, collision_with, collision}
 use Rattle.theory_calculus.proofs.Names.{bytes-true, bytes_refl, among-append}
 use Rattle.theory_calculus.proofs.Faultless.{map_none}
-use Rattle.theory_world.specs.KeptApart.{NoClash}
+use Rattle.theory_world.specs.KeptApart.{NoCollision}
 
 -- ---- byte strings in lists
 
@@ -32,7 +32,8 @@ pub among_one : (t u : List ℕ) → is_among t (u ∷ []) ≡ true → t ≡ u
 among_one t u h = elim (or_cases (bytes_eq u t) false h) [ inl q ↦ sym (bytes-true u t q) | inr q ↦ cc ]
 
 -- what holds of some string of the list that passes one test passes another
-pub any_then : (p q : List ℕ → Bool) (xs : List (List ℕ)) → ((u : List ℕ) → is_among u xs ≡ true → p u ≡ true → q u ≡ true) → list_any p xs ≡ true → list_any q xs ≡ true
+pub any_then : (p q : List ℕ → Bool) (xs : List (List ℕ)) → ((u : List ℕ) → is_among u xs ≡ true → p u ≡ true → q u ≡ true) → list_any p xs
+    ≡ true → list_any q xs ≡ true
 any_then p q [] h k = k
 any_then p q (x ∷ xs) h k =
     elim (or_cases (p x) (list_any p xs) k) [
@@ -85,8 +86,8 @@ all_new ms (x ∷ xs) t h = elim (or_cases (bytes_eq x t) (is_among t xs) h) [
 
 -- ---- no two of them have one digest
 
-pub no_clash_none : (hash : List ℕ → List ℕ) → NoClash hash []
-no_clash_none hash = record { one = λ t u h k e. cc }
+pub no_collision_none : (hash : List ℕ → List ℕ) → NoCollision hash []
+no_collision_none hash = record { one = λ t u h k e. cc }
 
 or_none : {A : Type 0} (a b : Option A) → option_or a b ≡ None → (a ≡ None) × (b ≡ None)
 or_none None b h = (refl, h)
@@ -97,13 +98,15 @@ pub find_none : (p : List ℕ → Bool) (ms : List (List ℕ)) (u : List ℕ) �
 find_none p [] u h k = cc
 find_none p (m ∷ ms) u h k = by_test (p m) refl h (or_cases (bytes_eq m u) (is_among u ms) k) (find_none p ms u)
   where
-    by_test : (b : Bool) → p m ≡ b → cond b (Some m) (find p ms) ≡ None → (bytes_eq m u ≡ true) ⊎ (is_among u ms ≡ true) → (find p ms ≡ None → is_among u ms ≡ true → p u ≡ false) → p u ≡ false
+    by_test : (b : Bool) → p m ≡ b → cond b (Some m) (find p ms) ≡ None → (bytes_eq m u ≡ true) ⊎ (is_among u ms ≡ true)
+        → (find p ms ≡ None → is_among u ms ≡ true → p u ≡ false) → p u ≡ false
     by_test true e x c ih = cc
     by_test false e x (inl q) ih = subst (λ y. p y ≡ false) (bytes-true m u q) e
     by_test false e x (inr q) ih = ih x q
 
-no_clash_push : (hash : List ℕ → List ℕ) (ms : List (List ℕ)) (m : List ℕ) → NoClash hash ms → clash hash ms m ≡ None → NoClash hash (noted ms m)
-no_clash_push hash ms m n h = record { one = λ t u i j e. by_case t u e (noted_back ms m t i) (noted_back ms m u j) }
+no_collision_push : (hash : List ℕ → List ℕ) (ms : List (List ℕ)) (m : List ℕ) → NoCollision hash ms → collision_with hash ms m ≡ None
+    → NoCollision hash (noted ms m)
+no_collision_push hash ms m n h = record { one = λ t u i j e. by_case t u e (noted_back ms m t i) (noted_back ms m u j) }
   where
     none : (u : List ℕ) → is_among u ms ≡ true → hash u ≡ hash m → u ≡ m
     none u k e =
@@ -118,8 +121,8 @@ no_clash_push hash ms m n h = record { one = λ t u i j e. by_case t u e (noted_
     by_case t u e (inr x) (inl y) = x ∙ sym (none u y (sym e ∙ ap hash x))
     by_case t u e (inr x) (inr y) = x ∙ sym y
 
-pub no_clash : (hash : List ℕ → List ℕ) (ms ts : List (List ℕ)) → NoClash hash ms → collision hash ms ts ≡ None → NoClash hash (noted_all ms ts)
-no_clash hash ms [] n h = n
-no_clash hash ms (t ∷ ts) n h =
-    let f = or_none (clash hash ms t) (collision hash (noted ms t) ts) h in
-    no_clash hash (noted ms t) ts (no_clash_push hash ms t n f.0) f.1
+pub no_collision : (hash : List ℕ → List ℕ) (ms ts : List (List ℕ)) → NoCollision hash ms → collision hash ms ts ≡ None → NoCollision hash (noted_all ms ts)
+no_collision hash ms [] n h = n
+no_collision hash ms (t ∷ ts) n h =
+    let f = or_none (collision_with hash ms t) (collision hash (noted ms t) ts) h in
+    no_collision hash (noted ms t) ts (no_collision_push hash ms t n f.0) f.1

@@ -1,4 +1,4 @@
--- Each event hashes the strings of its row, or where it is refused a front of them.
+-- Each event hashes the strings of its row, or where it is refused a prefix of them.
 use Rattle.std.proofs.Common.{◌≡◌, ℕ, List, [], ◌++◌, Option, Some, None, Ok, Err, Result, true, false, refl, ◌∙◌}
 use Rattle.std.proofs.lemmas.List.{append-nil}
 use Rattle.spec_data.specs.Lists.{first_reason}
@@ -12,7 +12,7 @@ use Rattle.spec_run.specs.declared.outcome.Reason.{Reason}
 use Rattle.spec_run.specs.Setup.{Setup}
 use Rattle.spec_run.specs.World.{World, live_position_at}
 use Rattle.spec_run.specs.Compiled.{compiled_instance}
-use Rattle.spec_run.specs.Draft.{Draft, unless}
+use Rattle.spec_run.specs.Pending.{Pending, unless}
 use Rattle.spec_run.specs.Advertising.{advertise_row}
 use Rattle.spec_run.specs.Committing.{commit_row, digest_row, committed_strings, strings_compiled, with_promise}
 use Rattle.spec_run.specs.Signing.{endorse_row, init_row, authorise_row, sign_row, with_pairs}
@@ -20,26 +20,26 @@ use Rattle.spec_run.specs.Revealing.{reveal_row}
 use Rattle.spec_run.specs.Giving.{give_row, given_pairs, gift}
 use Rattle.spec_run.specs.Firing.{fire_init_row, fire_row, initial_by, taking_of_position, reaches_if}
 use Rattle.spec_run.specs.Ledger.{judged, reaches, verdict_in}
-use Rattle.spec_run.specs.Event.{draft, append_read, mine_row}
+use Rattle.spec_run.specs.Event.{pending, append_read, mine_row}
 use Rattle.spec_run.specs.Hashing.{event_strings, judged_strings, reaching_strings, reaching_if, reaching_read}
 use Rattle.spec_run.specs.Values.{is_refused}
 use Rattle.theory_world.specs.Hashing.{EventsHashRows}
 
--- the draft hashes these strings, or a front of them where it is refused
-record HashesOf (d : Draft) (xs : List (List ℕ)) : Type 0 where
+-- the pending effect hashes these strings, or a prefix of them where it is refused
+record HashesOf (d : Pending) (xs : List (List ℕ)) : Type 0 where
   row : is_refused d.outcome ≡ false → d.hashes ≡ xs
   rest : List (List ℕ)
-  front : is_refused d.outcome ≡ true → d.hashes ++ rest ≡ xs
+  prefix : is_refused d.outcome ≡ true → d.hashes ++ rest ≡ xs
 
 -- it hashes just these, refused or not
-just : (d : Draft) (xs : List (List ℕ)) → d.hashes ≡ xs → HashesOf d xs
-just d xs e = record { row = λ h. e; rest = []; front = λ h. append-nil d.hashes ∙ e }
+just : (d : Pending) (xs : List (List ℕ)) → d.hashes ≡ xs → HashesOf d xs
+just d xs e = record { row = λ h. e; rest = []; prefix = λ h. append-nil d.hashes ∙ e }
 
 -- a refusal by a row of the event's own, before which these were hashed
-own : (o : Option Reason) (w : World) (before rest : List (List ℕ)) (d : Draft) (xs : List (List ℕ)) → before ++ rest ≡ xs → HashesOf d xs
+own : (o : Option Reason) (w : World) (before rest : List (List ℕ)) (d : Pending) (xs : List (List ℕ)) → before ++ rest ≡ xs → HashesOf d xs
     → HashesOf (unless o w before d) xs
 own None w before rest d xs e h = h
-own (Some reason) w before rest d xs e h = record { row = λ q. cc; rest = rest; front = λ q. e }
+own (Some reason) w before rest d xs e h = record { row = λ q. cc; rest = rest; prefix = λ q. e }
 
 by_verdict : (s : Setup) (w signed : World) (tx : Tx) (v : Verdict) → HashesOf (judged s w signed tx v) (judged_strings s signed tx v)
 by_verdict s w signed tx (verdicts.Accepted spent made) = just _ _ refl
@@ -56,7 +56,7 @@ reached_read : (s : Setup) (w : World) (r : Result Tx ℕ) → HashesOf (append_
 reached_read s w (Ok tx) = reached s w w tx
 reached_read s w (Err place) = just _ _ refl
 
-hashes : (s : Setup) (w : World) (e : Event) → HashesOf (draft s w e) (event_strings s w e)
+hashes : (s : Setup) (w : World) (e : Event) → HashesOf (pending s w e) (event_strings s w e)
 hashes s w (events.Advertise contract bindings) = own (first_reason (advertise_row s w contract bindings)) w [] _ _ _ refl (just _ _ refl)
 hashes s w (events.Commit contract party digests) =
     let more = strings_compiled s (compiled_instance s (with_promise s w contract party digests) contract) in
@@ -81,4 +81,4 @@ hashes s w (events.Mine blocks) = own (first_reason (mine_row w blocks)) w [] _ 
 pub events_hash_rows : EventsHashRows
 events_hash_rows s w e =
     let h = hashes s w e in
-    record { row = h.row; rest = h.rest; front = h.front }
+    record { row = h.row; rest = h.rest; prefix = h.prefix }

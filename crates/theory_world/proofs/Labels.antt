@@ -88,11 +88,14 @@ steps_fine : (path : List PathStep) (sp end : Subterm) → FineSpot sp → subte
 steps_fine [] sp end h e = tt
 steps_fine (st ∷ path) sp end h e = by_next (next_subterm sp st) refl e (λ next f q. let r = next_step sp st next h f in (r.1, steps_fine path next end r.0 q))
   where
-    by_next : (o : Option Subterm) → next_subterm sp st ≡ o → option_and_then (λ q. subterm_from q path) o ≡ Some end → ((next : Subterm) → next_subterm sp st ≡ Some next → subterm_from next path ≡ Some end → AllByRecursion IsStep (st ∷ path)) → AllByRecursion IsStep (st ∷ path)
+    by_next : (o : Option Subterm) → next_subterm sp st ≡ o → option_and_then (λ q. subterm_from q path) o ≡ Some end
+        → ((next : Subterm) → next_subterm sp st ≡ Some next → subterm_from next path ≡ Some end → AllByRecursion IsStep (st ∷ path))
+        → AllByRecursion IsStep (st ∷ path)
     by_next None f q go = cc
     by_next (Some next) f q go = go next f q
 
-pub path_fine : (a : Advert) (path : List PathStep) (end : Subterm) → IsWellFormed a → subterm_from (position a.root) path ≡ Some end → AllByRecursion IsStep path
+pub path_fine : (a : Advert) (path : List PathStep) (end : Subterm) → IsWellFormed a → subterm_from (position a.root) path ≡ Some end
+    → AllByRecursion IsStep path
 path_fine a path end h e =
     let r = and_parts _ (nat_le a.fee max_money && is_readable_contract a.root) h.readable in
     let c = (and_parts (nat_le a.fee max_money) (is_readable_contract a.root) r.1).1 in

@@ -19,18 +19,20 @@ use Rattle.theory_world.specs.KeptApart.{are_made}
 
 -- ---- outputs by number, after a transaction
 
-pub get-spent : (k n : ℕ) (ns : List ℕ) (os : List Output) → slice_get (spend_from k ns os) n ≡ option_map (λ (o : Output). if has_number (n + k) ns then record o { live = false } else o) (slice_get os n)
+pub get-spent : (k n : ℕ) (ns : List ℕ) (os : List Output) → slice_get (spend_from k ns os) n
+    ≡ option_map (λ (o : Output). if has_number (n + k) ns then record o { live = false } else o) (slice_get os n)
 get-spent k n ns [] = refl
 get-spent k zero ns (o ∷ os) = let z : 0 + k ≡ k = omega arith in rw z refl
 get-spent k (suc n) ns (o ∷ os) = let z : n + (k + 1) ≡ suc n + k = omega arith in rw z at (get-spent (k + 1) n ns os)
 
-pub get-front : {X : Type 0} (xs ys : List X) (n : ℕ) (x : X) → slice_get xs n ≡ Some x → slice_get (xs ++ ys) n ≡ Some x
-get-front [] ys n x h = cc
-get-front (y ∷ xs) ys zero x h = h
-get-front (y ∷ xs) ys (suc n) x h = get-front xs ys n x h
+pub get-prefix : {X : Type 0} (xs ys : List X) (n : ℕ) (x : X) → slice_get xs n ≡ Some x → slice_get (xs ++ ys) n ≡ Some x
+get-prefix [] ys n x h = cc
+get-prefix (y ∷ xs) ys zero x h = h
+get-prefix (y ∷ xs) ys (suc n) x h = get-prefix xs ys n x h
 
 -- an element of two joined lists stands in the first, or so many places after it in the second
-pub get-split : {X : Type 0} (xs ys : List X) (n : ℕ) (x : X) → slice_get (xs ++ ys) n ≡ Some x → (slice_get xs n ≡ Some x) ⊎ ((m : ℕ) × (n ≡ length xs + m) × (slice_get ys m ≡ Some x))
+pub get-split : {X : Type 0} (xs ys : List X) (n : ℕ) (x : X) → slice_get (xs ++ ys) n ≡ Some x
+    → (slice_get xs n ≡ Some x) ⊎ ((m : ℕ) × (n ≡ length xs + m) × (slice_get ys m ≡ Some x))
 get-split [] ys n x h = inr (n, omega arith, h)
 get-split (y ∷ xs) ys zero x h = inl h
 get-split (y ∷ xs) ys (suc n) x h = elim (get-split xs ys n x h) [
@@ -40,7 +42,8 @@ get-split (y ∷ xs) ys (suc n) x h = elim (get-split xs ys n x h) [
 
 -- new output m
 pub get-made : (held : ℕ → Option ContractPosition) (id : List ℕ) (k m : ℕ) (os : List TxOut) (x : Output) → slice_get (made_from held id k os) m ≡ Some x
-    → (o : TxOut) × (slice_get os m ≡ Some o) × (x ≡ record { outpoint = record { txid = id; vout = m + k }; value = o.value; script = o.script; live = true; holds = held (m + k) })
+    → (o : TxOut) × (slice_get os m ≡ Some o)
+    × (x ≡ record { outpoint = record { txid = id; vout = m + k }; value = o.value; script = o.script; live = true; holds = held (m + k) })
 get-made held id k m [] x h = cc
 get-made held id k zero (o ∷ os) x h =
     let z : 0 + k ≡ k = omega arith in
@@ -73,13 +76,18 @@ lasts_same os ps e = subst (Lasts os) (sym e) (lasts_refl os)
 pub lasts_spent : (ns : List ℕ) (os news : List Output) → Lasts os (spend_from 0 ns os ++ news)
 lasts_spent ns os news = record { last = λ n o h. by_test n o h (has_number (n + 0) ns) refl }
   where
-    by_test : (n : ℕ) (o : Output) → slice_get os n ≡ Some o → (b : Bool) → has_number (n + 0) ns ≡ b → (p : Output) × (slice_get (spend_from 0 ns os ++ news) n ≡ Some p) × SameOutput o p
+    by_test : (n : ℕ) (o : Output) → slice_get os n ≡ Some o → (b : Bool) → has_number (n + 0) ns ≡ b → (p : Output)
+        × (slice_get (spend_from 0 ns os ++ news) n ≡ Some p) × SameOutput o p
     by_test n o h true e =
-        let g : slice_get (spend_from 0 ns os) n ≡ Some (record o { live = false }) = get-spent 0 n ns os ∙ rw (h, e) refl in
-        (record o { live = false }, get-front (spend_from 0 ns os) news n (record o { live = false }) g, record { outpoint = refl; script = refl; value = refl; holds = refl; dead = λ x. refl })
+        let g : slice_get (spend_from 0 ns os) n ≡ Some (record o { live = false }) = get-spent 0 n ns os ∙ rw (h, e) refl in (
+          record o { live = false },
+          get-prefix (spend_from 0 ns os) news n (record o { live = false })
+              g,
+          record { outpoint = refl; script = refl; value = refl; holds = refl; dead = λ x. refl },
+        )
     by_test n o h false e =
         let g : slice_get (spend_from 0 ns os) n ≡ Some o = get-spent 0 n ns os ∙ rw (h, e) refl in
-        (o, get-front (spend_from 0 ns os) news n o g, record { outpoint = refl; script = refl; value = refl; holds = refl; dead = λ x. x })
+        (o, get-prefix (spend_from 0 ns os) news n o g, record { outpoint = refl; script = refl; value = refl; holds = refl; dead = λ x. x })
 
 -- ---- compiled contracts
 
@@ -93,7 +101,8 @@ pub record IsCompiledAt (s : Setup) (w : World) (k : ℕ) (st : Instance) : Type
 pub compiled_is : (s : Setup) (w : World) (k : ℕ) (st : Instance) → compiled_instance s w k ≡ Some st → IsCompiledAt s w k st
 compiled_is s w k st h = by_contract (contract_at s k) refl h
   where
-    by_test : (a : Advert) → contract_at s k ≡ Some a → (b : Bool) → is_complete w k a ≡ b → (if b then Some (instance_of w k a) else None) ≡ Some st → IsCompiledAt s w k st
+    by_test : (a : Advert) → contract_at s k ≡ Some a → (b : Bool) → is_complete w k a ≡ b → (if b then Some (instance_of w k a) else None)
+        ≡ Some st → IsCompiledAt s w k st
     by_test a e true f q = let p = and_parts (is_advertised w k) (have_promised w k (participants a)) f in let z : instance_of w k a ≡ st = cc in record { advert = a; there = e; advertised = p.0; promised = p.1; is = sym z }
     by_test a e false f q = cc
 
@@ -101,7 +110,8 @@ compiled_is s w k st h = by_contract (contract_at s k) refl h
     by_contract None e q = cc
     by_contract (Some a) e q = by_test a e (is_complete w k a) refl q
 
-pub compiled_from : (s : Setup) (w : World) (k : ℕ) (a : Advert) → contract_at s k ≡ Some a → is_advertised w k ≡ true → have_promised w k (participants a) ≡ true → compiled_instance s w k ≡ Some (instance_of w k a)
+pub compiled_from : (s : Setup) (w : World) (k : ℕ) (a : Advert) → contract_at s k ≡ Some a → is_advertised w k ≡ true
+    → have_promised w k (participants a) ≡ true → compiled_instance s w k ≡ Some (instance_of w k a)
 compiled_from s w k a e f g =
     let c : is_complete w k a ≡ true = and_from _ _ f g in
     ap (instance_if_complete w k) e ∙ rw c refl

@@ -7,7 +7,7 @@ use Rattle.spec_run.specs.World.{Promise, World, output_at}
 use Rattle.spec_run.specs.Secrets.{digest_at}
 
 -- no two different messages have one digest
-pub record NoClash (hash : List ℕ → List ℕ) (ms : List (List ℕ)) : Type 0 where
+pub record NoCollision (hash : List ℕ → List ℕ) (ms : List (List ℕ)) : Type 0 where
   pub one : (t u : List ℕ) → is_among t ms ≡ true → is_among u ms ≡ true → hash t ≡ hash u → t ≡ u
 
 -- no two secrets are committed by one digest

@@ -1,4 +1,5 @@
-//! What follows of any world, whatever run led to it: each theorem is the contract of a function that does nothing.
+//! Theorems on the ledger's side of a run: value never grows, a refused event changes only what was hashed, and each
+//! event hashes the strings of its row. Each is the contract of a function that does nothing.
 #![tactic(auto)]
 
 ghost use Rattle.spec_run.specs.Statements.{ValueTheorem, RefusalTheorem};
@@ -15,7 +16,7 @@ pub fn refusal_theorem()
     ensures { RefusalTheorem }
 {}
 
-/// An event hashes the strings of its row in the table, or where it is refused a front of them.
+/// An event hashes the strings of its row in the table, or where it is refused a prefix of them.
 pub fn events_hash_rows()
     ensures { EventsHashRows }
 {}

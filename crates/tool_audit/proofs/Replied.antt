@@ -25,7 +25,7 @@ use Rattle.bm_world.specs.Playing.{Played, setup_in}
 use Rattle.tool_replies.specs.Halting.{halt_printed}
 use Rattle.tool_replies.specs.Last.{IsWhole}
 use Rattle.tool_replies.proofs.Ended.{whole_if}
-use Rattle.bm_world_heard.specs.Heard.{Clashes, Stopped}
+use Rattle.bm_world_heard.specs.Heard.{CollidesHere, Stopped}
 
 -- ---- compiled or not
 
@@ -47,23 +47,23 @@ found_path s w text report last r none l =
 
 -- ---- a halt
 
-clash_is : {E : Type 0} (r : Result Reply E) (hash : List ℕ → List ℕ) (old new strings : List (List ℕ)) (halt : Halt) (text : List ℕ)
-    → Clashes hash old new strings halt → IfOk r (λ reply. Some (printed reply) ≡ halt_printed halt)
+collision_is : {E : Type 0} (r : Result Reply E) (hash : List ℕ → List ℕ) (old new strings : List (List ℕ)) (halt : Halt) (text : List ℕ)
+    → CollidesHere hash old new strings halt → IfOk r (λ reply. Some (printed reply) ≡ halt_printed halt)
     → IfOk r (λ reply. printed reply ≡ audited (collision hash old strings) text)
-clash_is (Err e) hash old new strings halt text c h = tt
-clash_is (Ok reply) hash old new strings (Collided earlier later) text c h =
+collision_is (Err e) hash old new strings halt text c h = tt
+collision_is (Ok reply) hash old new strings (Collided earlier later) text c h =
     same_Some (printed reply) (prints 8 (collided_line earlier later)) h
     ∙ sym (ap (λ o. audited o text) (c.collided earlier later refl))
-clash_is (Ok reply) hash old new strings (Guessed party secret) text c h = absurd (c.unguessed party secret refl)
-clash_is (Ok reply) hash old new strings Memory text c h = absurd (none-some (printed reply) (sym h))
+collision_is (Ok reply) hash old new strings (Guessed party secret) text c h = absurd (c.unguessed party secret refl)
+collision_is (Ok reply) hash old new strings Memory text c h = absurd (none-some (printed reply) (sym h))
 
 module _ {H : Type 0} (digest : H → List ℕ → List ℕ) (old new : Played H) (text : List ℕ) (halt : Halt) (going : old.halt ≡ None)
     (t : Stopped digest old new (audit_strings (setup_in digest old) old.world text) halt) where
   abbrev strings : List (List ℕ)
   strings = audit_strings (setup_in digest old) old.world text
 
-  clashes : Clashes (digest new.hasher) old.world.hashed new.world.hashed strings halt
-  clashes = subst (λ h. Clashes (digest h) old.world.hashed new.world.hashed strings halt) (sym t.setup.hasher) (t.cause going)
+  collides_here : CollidesHere (digest new.hasher) old.world.hashed new.world.hashed strings halt
+  collides_here = subst (λ h. CollidesHere (digest h) old.world.hashed new.world.hashed strings halt) (sym t.setup.hasher) (t.cause going)
 
   -- it is the one that is answered
   pub halted_is : {E : Type 0} (r : Result Reply E)
@@ -73,7 +73,7 @@ module _ {H : Type 0} (digest : H → List ℕ → List ℕ) (old new : Played H
   halted_is r h =
       subst (λ x. IfOk r (λ reply. printed reply ≡ audited (collision (digest x) old.world.hashed strings) (audit_text (setup_in digest old) old.world text)))
       t.setup.hasher
-      (clash_is r (digest new.hasher) old.world.hashed new.world.hashed strings halt (audit_text (setup_in digest old) old.world text) clashes h)
+      (collision_is r (digest new.hasher) old.world.hashed new.world.hashed strings halt (audit_text (setup_in digest old) old.world text) collides_here h)
 
 -- ---- after a run
 

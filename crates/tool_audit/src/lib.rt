@@ -1,4 +1,4 @@
-//! What `audit` replies: the report of what is found of a file's transactions in the world that a run left, or the line of a halt.
+//! The reply of `audit`: the report on a file's transactions after a run, or the line of the halt.
 #![tactic(auto)]
 
 mod auditing;

@@ -16,7 +16,7 @@ use spec_data::{Bytes, OutOfMemory};
 use spec_run::Run;
 use spec_tool::Reply;
 use std::alloc::Global;
-use tool_replies::{halt_reply, let_go, play_to_end};
+use tool_replies::{halt_reply, leak, play_to_end};
 
 // What is replied where the file of an audit has too many bytes.
 fn refused_reply(alloc: Global) -> Result<Reply, OutOfMemory>
@@ -45,7 +45,7 @@ fn text_reply<H: Hash32 + Drop>(
         Ok(world) => {
             let mut world = world;
             let reply = world_reply(alloc, &mut world, text);
-            let_go(world);
+            leak(world);
             reply
         }
     }

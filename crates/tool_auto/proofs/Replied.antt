@@ -10,8 +10,8 @@ use Rattle.spec_run.specs.declared.event.Run.{Run}
 use Rattle.spec_run.specs.declared.header.Header.{Header}
 use Rattle.spec_run.specs.Setup.{Setup}
 use Rattle.spec_run.specs.World.{World}
-use Rattle.spec_run.specs.Draft.{Answer, Went, Halted}
-use Rattle.spec_run.specs.Draft as draft
+use Rattle.spec_run.specs.Pending.{Answer, Went, Halted}
+use Rattle.spec_run.specs.Pending as pending
 use Rattle.spec_run.specs.Event.{played_from, played, goes_on, event, opening_world}
 use Rattle.spec_run.specs.Translation.{trace, last_world}
 use Rattle.spec_text.specs.Limits.{most_events}
@@ -69,10 +69,10 @@ halted_by : (halt : Halt) (comes : Progressed) (h : Header) (es : List Event) (r
     → IsCause halt comes → Some (printed reply) ≡ halt_printed halt → printed reply ≡ progressed_answer h es comes
 halted_by (halts.Collided earlier later) comes h es reply c told =
     same_Some (printed reply) (prints 8 (collided_line earlier later)) told
-    ∙ ap (progressed_answer h es) (sym (c (draft.Collided earlier later) refl))
+    ∙ ap (progressed_answer h es) (sym (c (pending.Collided earlier later) refl))
 halted_by (halts.Guessed party secret) comes h es reply c told =
     same_Some (printed reply) (prints 7 (guessed_line party secret)) told
-    ∙ ap (progressed_answer h es) (sym (c (draft.Guessed party secret) refl))
+    ∙ ap (progressed_answer h es) (sym (c (pending.Guessed party secret) refl))
 halted_by halts.Memory comes h es reply c told = absurd (none-some (printed reply) (sym told))
 
 -- and has another status than 0

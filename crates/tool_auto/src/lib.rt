@@ -1,4 +1,4 @@
-//! What `auto` replies: a run that goes on by the rules of a strategy.
+//! The reply of `auto`: the run file with the events that a strategy adds, or why the strategy is refused.
 #![tactic(auto)]
 
 mod continuing;

@@ -22,7 +22,7 @@ use spec_run::Run;
 use spec_tool::{Reply, Rule};
 use std::alloc::Global;
 use theory_auto::{longer_runs_are_spelled, strategies_are_honest};
-use tool_replies::{halt_reply, let_go, play_to_end};
+use tool_replies::{halt_reply, leak, play_to_end};
 
 // What is replied to a run, which goes on by these rules unless it is halted.
 fn rules_reply<H: Hash32 + Drop>(
@@ -45,7 +45,7 @@ fn rules_reply<H: Hash32 + Drop>(
         Ok(world) => {
             let mut world = world;
             let reply = continued_reply(alloc, &mut world, run, rules);
-            let_go(world);
+            leak(world);
             reply
         }
     }

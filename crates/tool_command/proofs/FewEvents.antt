@@ -86,7 +86,8 @@ with_header_small h (Err fault) few = tt
 
 rest_small : (headed : Result Headed RunFault) → Small (read_rest headed)
 rest_small (Err fault) = tt
-rest_small (Ok headed) = with_header_small (headed.0) (read_events (headed.0.parties) 0 (headed.2) (headed.1)) (events_few (headed.0.parties) 0 (headed.2) (headed.1) (omega arith))
+rest_small (Ok headed) =
+    with_header_small (headed.0) (read_events (headed.0.parties) 0 (headed.2) (headed.1)) (events_few (headed.0.parties) 0 (headed.2) (headed.1) (omega arith))
 
 abbrev IsSmall : Judged Run → Type 0
 IsSmall (Ok run) = length run.events ≤ most_events
@@ -103,7 +104,8 @@ unless_size false why judged h = h
 in_small : (text : Text) → IsSmall (run_in text)
 in_small None = tt
 in_small (Some text) =
-    unless_size (nat_lt most_run_bytes (length text)) _ (judged_run (read_run text)) (judged_small (read_run text) (rest_small (read_header no_header 1 (lines_of text))))
+    unless_size (nat_lt most_run_bytes (length text)) _ (judged_run (read_run text))
+    (judged_small (read_run text) (rest_small (read_header no_header 1 (lines_of text))))
 
 pub few_events : (text : Text) (run : Run) → run_in text ≡ Ok run → length run.events ≤ most_events
 few_events text run e = subst IsSmall e (in_small text)

@@ -41,8 +41,8 @@ JudgesAll view (Err error) judged = RefusesOne error judged
 
 -- contracts that were taken before others that are judged
 abbrev pub behind : List Advert → JudgedAll → JudgedAll
-behind front (Ok adverts) = Ok (front ++ adverts)
-behind front (Err refusal) = Err refusal
+behind prefix (Ok adverts) = Ok (prefix ++ adverts)
+behind prefix (Err refusal) = Err refusal
 
 -- ---- run and contracts
 

@@ -1,5 +1,5 @@
-//! A call of the program: the command that its words are, the files that it reads, what is judged of the run and the contracts in
-//! them, and what it replies.
+//! What a call of a program is: the command that its words are, the files that it reads, and the run and contracts that
+//! they hold. All programs except that for deals share it.
 #![tactic(auto)]
 
 mod both;

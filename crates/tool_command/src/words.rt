@@ -13,7 +13,7 @@ use tool_which::which_of;
 /// The most contracts of a run.
 const MOST_CONTRACTS: usize = 16;
 
-/// The greatest size of a made run.
+/// The greatest size of a generated run.
 const MOST_SIZE: u64 = 30;
 
 fn check_words(words: &[String]) -> Option<Command<'_>>

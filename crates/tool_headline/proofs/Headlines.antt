@@ -9,7 +9,7 @@ use Rattle.spec_tool.specs.Headline.{HeadlineTheorem}
 use Rattle.theory_tool.specs.Ended.{CallsEnd}
 use Rattle.theory_tool.specs.Kept.{RunsAreKept}
 use Rattle.theory_tool.specs.Statuses.{StatusesTheorem}
-use Rattle.theory_report.specs.Statements.{PlaysAreRead}
+use Rattle.theory_play_text.specs.Statements.{PlaysAreRead}
 use Rattle.theory_commands.specs.Causes.{CausesInFiles}
 use Rattle.theory_commands.specs.Commands.{CommandsShow}
 use Rattle.tool_shell.specs.Around.{Around}
@@ -61,7 +61,8 @@ module _ (t : Theorems) (hash : List ℕ → List ℕ) (bytes : HashesBytes hash
       shows = shows t.headline t.kept t.told t.commands hash bytes command a.reads few (made_of command a.reads a.made);
     });
     usage = λ e. usage_is a.reads (ended_with (tool_answer hash command a.reads) a.ends.went 2 (λ f. absurd (cc)) (sym e ∙ a.ends.status_is));
-    unread = λ e. a.unread (unread_is command a.reads (ended_with (tool_answer hash command a.reads) a.ends.went 3 (λ f. absurd (cc)) (sym e ∙ a.ends.status_is)));
+    unread =
+        λ e. a.unread (unread_is command a.reads (ended_with (tool_answer hash command a.reads) a.ends.went 3 (λ f. absurd (cc)) (sym e ∙ a.ends.status_is)));
     unwritten = λ e. a.ends.unwritten (unwritten_is a.reads a.ends.went (sym e ∙ a.ends.status_is));
     memory = λ e. absurd (never_five a.reads a.ends.went (sym e ∙ a.ends.status_is));
   }

@@ -13,8 +13,8 @@ use Rattle.spec_tool.specs.Commands.{Command, check, play, plan, make, psbt_of, 
 use Rattle.spec_tool.specs.Commands.{Printed, onto_judged, contracts_from, both_judged, run_answer, play_answer, files_of, contract_file}
 use Rattle.spec_tool.specs.Answers.{tool_answer, tool_reads, read_answer, text_answer, contracts_in}
 use Rattle.spec_tool.specs.Headline as shown
-use Rattle.theory_report.specs.Report.{report_of}
-use Rattle.theory_report.specs.Statements.{PlaysAreRead}
+use Rattle.theory_play_text.specs.Report.{report_of}
+use Rattle.theory_play_text.specs.Statements.{PlaysAreRead}
 use Rattle.spec_tool.specs.Headline.{HeadlineTheorem}
 use Rattle.theory_tool.specs.Kept.{RunsAreKept}
 use Rattle.theory_commands.specs.Commands.{CommandsShow}
@@ -88,7 +88,8 @@ module _ (theorem : HeadlineTheorem) (kept : RunsAreKept) (told : PlaysAreRead) 
   of_read None count = tt
   of_read (Some texts) count = of_texts texts count
 
-  pub of_play : (reads : List Read) → are_made (files_of (play run contracts)) reads ≡ true → ShowsTexts hash (texts_read reads) (tool_answer hash (Some (play run contracts)) reads)
+  pub of_play : (reads : List Read) → are_made (files_of (play run contracts)) reads ≡ true
+      → ShowsTexts hash (texts_read reads) (tool_answer hash (Some (play run contracts)) reads)
   of_play reads made = of_read (texts_read reads) (texts_count (files_of (play run contracts)) reads made)
 
 module _ (commands : CommandsShow) (hash : List ℕ → List ℕ) (bytes : HashesBytes hash) where

@@ -10,8 +10,8 @@ use Rattle.spec_tool.specs.Causes.{is_run_refused, is_contract_refused, is_psbt_
 use Rattle.spec_tool.specs.Headline as shown
 use Rattle.theory_tool.specs.Statuses.{Plays, Guess, Collision, AuditRefused, StrategyRefused, AllIsWell}
 use Rattle.theory_tool.specs.Kept.{KeepsRun}
-use Rattle.theory_report.specs.Report.{report_of}
-use Rattle.theory_report.specs.Statements.{shown_run}
+use Rattle.theory_play_text.specs.Report.{report_of}
+use Rattle.theory_play_text.specs.Statements.{shown_run}
 use Rattle.theory_commands.specs.Causes.{HasCausesInFiles}
 use Rattle.theory_commands.specs.Commands.{ShowsCommand}
 use Rattle.bm_io.specs.Counts.{RoseBy}
@@ -26,7 +26,7 @@ use Rattle.tool_command.specs.Seen.{HasFew}
 abbrev pub Answers : (List ℕ → List ℕ) → Option Command → Around → Around → ℕ → Type 0
 Answers hash command before now status = AnswersBy (tool_answer hash command) (option_map files_of command) before now status
 
--- the same, or want of memory
+-- the same, or out of memory
 abbrev pub AnswersOrGivesUp : (List ℕ → List ℕ) → Option Command → Around → Around → ℕ → Type 0
 AnswersOrGivesUp hash command before now status =
     AnswersByOrGivesUp (tool_answer hash command) (option_map files_of command) before now status
@@ -113,10 +113,10 @@ pub record Headline (hash : List ℕ → List ℕ) (command : Option Command) (b
   pub unread : status ≡ 3 → RoseBy 1 before.read_faults now.read_faults
   -- a fault of the sink is answered only where its count rose
   pub unwritten : status ≡ 4 → RoseBy 1 before.write_faults now.write_faults
-  -- memory is never wanting where the words are no command
+  -- memory never runs out where the words are no command
   pub memory : status ≡ 5 → is_some command ≡ true
 
--- a call that gives the defined answer, or gives up for want of memory, has its headline
+-- a call that gives the defined answer, or gives up as memory ran out, has its headline
 abbrev pub HeadlineOfAnswers : Type 0
 HeadlineOfAnswers = (hash : List ℕ → List ℕ) → HashesBytes hash → (command : Option Command) (before now : Around) (status : ℕ)
     → HasFew command → AnswersOrGivesUp hash command before now status → Headline hash command before now status

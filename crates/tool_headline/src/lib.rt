@@ -1,4 +1,5 @@
-//! The headline of the program: what a call promises, from its words to its status.
+//! The one clause of `run_tool`, and the call that writes a reply and ends with its status. Whoever asks what `bitml`
+//! promises reads `specs/Headline.antt`.
 #![tactic(auto)]
 
 mod theorem;

@@ -4,7 +4,7 @@ use Rattle.spec_run.specs.declared.event.Event.{Event}
 use Rattle.spec_run.specs.declared.outcome.Record.{Record}
 use Rattle.spec_run.specs.Setup.{Setup}
 use Rattle.spec_run.specs.World.{World}
-use Rattle.spec_run.specs.Draft.{Answer, Went, Halted}
+use Rattle.spec_run.specs.Pending.{Answer, Went, Halted}
 use Rattle.spec_run.specs.Event.{Passed, Progress, goes_on, played_from, played, opening_world, event}
 use Rattle.spec_run.specs.Translation.{Turn, turns_from, world_after, opening_configuration, translated, last_or, last_configuration}
 use Rattle.tool_replies.specs.Going.{record_passed}
@@ -20,9 +20,10 @@ again_on : (s : Setup) (w : World) (e : Event) (a : Answer) (later : World → P
 again_on s w e (Halted halt) later same h = refl
 again_on s w e (Went d next) later same h =
     ap (λ (a : Answer). (goes_on e a (λ n. played_from s n (events_passed (later next).passed))).passed) same
-    ∙ ap (λ (ps : List Passed). record { event = e; draft = d; world = next } ∷ ps) (h next)
+    ∙ ap (λ (ps : List Passed). record { event = e; pending = d; world = next } ∷ ps) (h next)
 
-pub passed_again : (s : Setup) (w : World) (es : List Event) → (played_from s w (events_passed (played_from s w es).passed)).passed ≡ (played_from s w es).passed
+pub passed_again : (s : Setup) (w : World) (es : List Event) → (played_from s w (events_passed (played_from s w es).passed)).passed
+    ≡ (played_from s w es).passed
 passed_again s w [] = refl
 passed_again s w (e ∷ es) = again_on s w e (event s w e) (λ next. played_from s next es) refl (λ next. passed_again s next es)
 

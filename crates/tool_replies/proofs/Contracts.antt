@@ -41,7 +41,7 @@ last_of : (s : Setup) (strings : List (List ℕ)) (g : Configuration) (w : World
     → (last_or g (map (λ (t : Turn). t.configuration) (turns_from s strings g w ps))).contracts ≡ g.contracts
 last_of s strings g w [] = refl
 last_of s strings g w (p ∷ ps) =
-    let ss = steps_of s strings g w p.world p.event p.draft in
+    let ss = steps_of s strings g w p.world p.event p.pending in
     last_of s strings (after_steps g ss) p.world ps ∙ after_all g ss
 
 pub contracts_stay : (s : Setup) (es : List Event) → (last_configuration s es).contracts ≡ s.contracts

@@ -24,15 +24,17 @@ use Rattle.tool_replies.specs.Whole.{IsLeft}
 use Rattle.tool_replies.proofs.OneByOne.{setup_same}
 
 -- each turn is recorded as its event was
-records_of : (s : Setup) (strings : List (List ℕ)) (g : Configuration) (w : World) (ps : List Passed) → map record_in (turns_from s strings g w ps) ≡ map record_passed ps
+records_of : (s : Setup) (strings : List (List ℕ)) (g : Configuration) (w : World) (ps : List Passed)
+    → map record_in (turns_from s strings g w ps) ≡ map record_passed ps
 records_of s strings g w [] = refl
 records_of s strings g w (p ∷ ps) =
-    ap (λ (rs : List Record). record_passed p ∷ rs) (records_of s strings (after_steps g (steps_of s strings g w p.world p.event p.draft)) p.world ps)
+    ap (λ (rs : List Record). record_passed p ∷ rs) (records_of s strings (after_steps g (steps_of s strings g w p.world p.event p.pending)) p.world ps)
 
 -- and the last leaves the last world
-last_left : (s : Setup) (strings : List (List ℕ)) (g : Configuration) (w : World) (ps : List Passed) → last_or w (map (λ (t : Turn). t.world) (turns_from s strings g w ps)) ≡ world_after w ps
+last_left : (s : Setup) (strings : List (List ℕ)) (g : Configuration) (w : World) (ps : List Passed)
+    → last_or w (map (λ (t : Turn). t.world) (turns_from s strings g w ps)) ≡ world_after w ps
 last_left s strings g w [] = refl
-last_left s strings g w (p ∷ ps) = last_left s strings (after_steps g (steps_of s strings g w p.world p.event p.draft)) p.world ps
+last_left s strings g w (p ∷ ps) = last_left s strings (after_steps g (steps_of s strings g w p.world p.event p.pending)) p.world ps
 
 pub trace_is : (s : Setup) (es : List Event) → trace s es ≡ map record_passed (played s es).passed
 trace_is s es = records_of s (world_after (opening_world s) (played s es).passed).posted (opening_configuration s) (opening_world s) (played s es).passed
@@ -48,7 +50,8 @@ module _ {H : Type 0} (digest : H → List ℕ → List ℕ) (hash : H) (header 
       let p : Plays digest (record { hasher = hash; header = header; contracts = contracts; world = opening_world s; trace = []; halt = None }) new es stop =
       subst (λ w. Plays digest w new es stop) o.is h in
       record {
-        setup = setup_same digest (record { hasher = hash; header = header; contracts = contracts; world = opening_world s; trace = []; halt = None }) new p.setup;
+        setup =
+            setup_same digest (record { hasher = hash; header = header; contracts = contracts; world = opening_world s; trace = []; halt = None }) new p.setup;
         run = record { setup = setup; opens = o.apart; events = events };
         going = p.going;
         stops = p.stops;

@@ -33,9 +33,11 @@ pub halted_make : (s : Setup) (es : List Event) (reply : Reply) → IsHalted s e
 unfolding make_text
 halted_make s es reply h = h.replied (run_counts s es)
 
-pub halted_if_whole : (s : Setup) (es : List Event) (reply : Reply) (answer : Setup → List Event → Printed) → IsHalted s es reply → printed reply ≡ if_whole answer s es
+pub halted_if_whole : (s : Setup) (es : List Event) (reply : Reply) (answer : Setup → List Event → Printed) → IsHalted s es reply
+    → printed reply ≡ if_whole answer s es
 halted_if_whole s es reply answer h =
-    h.replied [] ∙ sym (ap (λ b. cond b (answer s es) (prints (ending_status (ending s es)) (unless_halted (ending s es) []))) (ne_eqb (ending_status (ending s es)) 0 h.halted))
+    h.replied [] ∙ sym (ap (λ b. cond b (answer s es) (prints (ending_status (ending s es)) (unless_halted (ending s es) [])))
+    (ne_eqb (ending_status (ending s es)) 0 h.halted))
 
 -- ---- runs that weren't
 
@@ -71,6 +73,8 @@ complete_is w advert true = refl
 complete_is w advert false = tt
 
 -- what the contract is compiled with is of the contract
-pub compiled_of : (s : Setup) (w : World) (advert : Advert) → contract_at s 0 ≡ Some advert → IfSome (compiled_instance s w 0) (λ (i : Instance). i.advert ≡ advert)
+pub compiled_of : (s : Setup) (w : World) (advert : Advert) → contract_at s 0 ≡ Some advert
+    → IfSome (compiled_instance s w 0) (λ (i : Instance). i.advert ≡ advert)
 compiled_of s w advert e =
-    subst (λ (o : Option Advert). IfSome (instance_if_complete w 0 o) (λ (i : Instance). i.advert ≡ advert)) (sym e) (complete_is w advert (is_complete w 0 advert))
+    subst (λ (o : Option Advert). IfSome (instance_if_complete w 0 o) (λ (i : Instance). i.advert ≡ advert)) (sym e)
+    (complete_is w advert (is_complete w 0 advert))

@@ -5,7 +5,7 @@ use Rattle.std.proofs.lemmas.Option.{none-some, same_Some}
 use Rattle.std.proofs.lemmas.Result.{IfOk-weaker}
 use Rattle.spec_run.specs.declared.event.Event.{Event}
 use Rattle.spec_run.specs.Setup.{Setup}
-use Rattle.spec_run.specs.Draft as run
+use Rattle.spec_run.specs.Pending as run
 use Rattle.spec_run.specs.Event.{opening_collision}
 use Rattle.spec_run.specs.Translation.{course, end_world, end_configuration, first_halt}
 use Rattle.spec_text.specs.PlanText.{unless_halted}
@@ -27,11 +27,13 @@ use Rattle.tool_replies.specs.Last.{IsHalted, IsHaltedBy, IsWhole}
 -- ---- how a run ends
 
 -- its opening collides
-pub unopened_is : (s : Setup) (es : List Event) (earlier later : List ℕ) → opening_collision s ≡ Some (earlier, later) → ending s es ≡ shown.collided None earlier later
+pub unopened_is : (s : Setup) (es : List Event) (earlier later : List ℕ) → opening_collision s ≡ Some (earlier, later) → ending s es
+    ≡ shown.collided None earlier later
 unopened_is s es earlier later e = ap (λ o. ending_from (end_world s (course s es)) (end_configuration s (course s es)) o (first_halt s es)) e
 
 -- an event is halted
-pub halted_is : (s : Setup) (es : List Event) (e : Event) (halt : run.Halt) → opening_collision s ≡ None → first_halt s es ≡ Some (e, halt) → ending s es ≡ halted e halt
+pub halted_is : (s : Setup) (es : List Event) (e : Event) (halt : run.Halt) → opening_collision s ≡ None → first_halt s es ≡ Some (e, halt)
+    → ending s es ≡ halted e halt
 halted_is s es e halt opens h =
     ap (λ o. ending_from (end_world s (course s es)) (end_configuration s (course s es)) o (first_halt s es)) opens
     ∙ ap (ending_by (end_world s (course s es)) (end_configuration s (course s es))) h
@@ -91,7 +93,8 @@ pub halted_told : {E : Type 0} (r : Result Reply E) (s : Setup) (es : List Event
 halted_told r s es halt Q h told q =
     IfOk-weaker r (λ reply. Some (printed reply) ≡ halt_printed halt) Q (λ reply t. q reply (h reply t)) told
 
-pub whole_left : {H : Type 0} (digest : H → List ℕ → List ℕ) (s : Setup) (es : List Event) (left : world.Played H) → IsLeft digest s es left None → IsWhole digest s es left
+pub whole_left : {H : Type 0} (digest : H → List ℕ → List ℕ) (s : Setup) (es : List Event) (left : world.Played H)
+    → IsLeft digest s es left None → IsWhole digest s es left
 whole_left digest s es left l =
     let e = whole_is s es l.run.opens l.stops in
     record {

@@ -54,7 +54,8 @@ module _ {H : Type 0} (digest : H → List ℕ → List ℕ) (s : Setup) (es : L
   pub steps_for_each : (steps : List (List Step)) → steps ≡ translated s (recorded left.trace) → length steps ≡ length left.trace
   steps_for_each = one_each digest s es left l.trace
 
-  pub shown_are : (steps : List (List Step)) (shown : List Entry) → steps ≡ translated s (recorded left.trace) → shown ≡ entries_by left.trace steps → shown ≡ entries s es
+  pub shown_are : (steps : List (List Step)) (shown : List Entry) → steps ≡ translated s (recorded left.trace) → shown
+      ≡ entries_by left.trace steps → shown ≡ entries s es
   shown_are steps shown e h = h ∙ entries_are digest s es left l.trace steps e
 
   -- what `play` answers, by the steps of its records and its end
@@ -84,7 +85,8 @@ module _ {H : Type 0} (digest : H → List ℕ → List ℕ) (s : Setup) (es : L
       whole_end s es left.world g end (l.whole refl) e (whole_is s es l.run.opens l.stops)
       (h ∙ ap (λ (c : Chain). whole c.tip (map number_and_value c.live) g (map (λ (o : Offer). o.event) (offers g))) at)
 
-  pub live_are : (chain : Chain) (live : List (ℕ × ℕ)) → chain ≡ chain_of left.world → live ≡ map number_and_value chain.live → live ≡ live_outputs (last_world s es)
+  pub live_are : (chain : Chain) (live : List (ℕ × ℕ)) → chain ≡ chain_of left.world → live ≡ map number_and_value chain.live → live
+      ≡ live_outputs (last_world s es)
   live_are chain live at e =
       e ∙ ap (λ (c : Chain). map number_and_value c.live) at ∙ live_of_chain left.world ∙ ap live_outputs (l.whole refl)
 

@@ -9,9 +9,9 @@ use Rattle.spec_run.specs.declared.event.Event.{Event}
 use Rattle.spec_run.specs.declared.outcome.Record.{Record}
 use Rattle.spec_run.specs.Setup.{Setup}
 use Rattle.spec_run.specs.World.{World}
-use Rattle.spec_run.specs.Draft.{Answer, Draft, Went, Halted}
-use Rattle.spec_run.specs.Draft as run
-use Rattle.spec_run.specs.Event.{Passed, Progress, onto_passed, goes_on, played_from, record_of, event, draft}
+use Rattle.spec_run.specs.Pending.{Answer, Pending, Went, Halted}
+use Rattle.spec_run.specs.Pending as run
+use Rattle.spec_run.specs.Event.{Passed, Progress, onto_passed, goes_on, played_from, record_of, event, pending}
 use Rattle.spec_run.specs.Translation.{world_after}
 use Rattle.bm_world.specs.Playing as world
 use Rattle.bm_world.specs.Playing.{most_records, setup_in, SameSetup, Stopped}
@@ -21,21 +21,21 @@ use Rattle.tool_replies.specs.Going.{GoesOn, Stops, Steps, record_passed, behind
 
 -- ---- lists of events that went on
 
-behind-onto : (front : List Passed) (p : Passed) (later : Progress) → behind front (onto_passed p later) ≡ behind (front ++ p ∷ []) later
+behind-onto : (prefix : List Passed) (p : Passed) (later : Progress) → behind prefix (onto_passed p later) ≡ behind (prefix ++ p ∷ []) later
 behind-onto [] p later = refl
-behind-onto (q ∷ front) p later = ap (onto_passed q) (behind-onto front p later)
+behind-onto (q ∷ prefix) p later = ap (onto_passed q) (behind-onto prefix p later)
 
-passed-behind : (front : List Passed) (later : Progress) → (behind front later).passed ≡ front ++ later.passed
+passed-behind : (prefix : List Passed) (later : Progress) → (behind prefix later).passed ≡ prefix ++ later.passed
 passed-behind [] later = refl
-passed-behind (q ∷ front) later = ap (λ ps. q ∷ ps) (passed-behind front later)
+passed-behind (q ∷ prefix) later = ap (λ ps. q ∷ ps) (passed-behind prefix later)
 
-halt-behind : (front : List Passed) (later : Progress) → (behind front later).halt ≡ later.halt
+halt-behind : (prefix : List Passed) (later : Progress) → (behind prefix later).halt ≡ later.halt
 halt-behind [] later = refl
-halt-behind (q ∷ front) later = halt-behind front later
+halt-behind (q ∷ prefix) later = halt-behind prefix later
 
-world_after-last : (w : World) (front : List Passed) (p : Passed) → world_after w (front ++ p ∷ []) ≡ p.world
+world_after-last : (w : World) (prefix : List Passed) (p : Passed) → world_after w (prefix ++ p ∷ []) ≡ p.world
 world_after-last w [] p = refl
-world_after-last w (q ∷ front) p = world_after-last q.world front p
+world_after-last w (q ∷ prefix) p = world_after-last q.world prefix p
 
 -- ---- setups
 
@@ -71,7 +71,7 @@ pub begin : {H : Type 0} (digest : H → List ℕ → List ℕ) (old : world.Pla
 begin digest old es h = record {
   setup = record { hasher = refl; header = refl; contracts = refl };
   going = h;
-  front = [];
+  prefix = [];
   joined = refl;
   left = refl;
   count = add_zero (length es);
@@ -82,36 +82,37 @@ module _ {H : Type 0} (digest : H → List ℕ → List ℕ) (old mid new : worl
   abbrev s : Setup
   s = setup_in digest old
 
-  abbrev the_draft : Draft
-  the_draft = draft s mid.world e
+  abbrev the_pending : Pending
+  the_pending = pending s mid.world e
 
   abbrev one : Passed
-  one = record { event = e; draft = the_draft; world = new.world }
+  one = record { event = e; pending = the_pending; world = new.world }
 
   -- there is room for its record
   pub room : length old.trace + length es ≤ most_records → length mid.trace < most_records
   room few =
-      let n : length mid.trace ≡ length old.trace + length m.front =
-      ap length m.trace ∙ length-append old.trace (map record_passed m.front) ∙ ap (λ (k : ℕ). length old.trace + k) (length-map m.front record_passed) in
+      let n : length mid.trace ≡ length old.trace + length m.prefix =
+      ap length m.trace ∙ length-append old.trace (map record_passed m.prefix) ∙ ap (λ (k : ℕ). length old.trace + k) (length-map m.prefix record_passed) in
       let so_far = m.count in
       omega (arith, n, so_far, few)
 
   pub one_more : GoesOn digest mid new e → Midway digest old new es rest
   one_more g =
       let same : setup_in digest mid ≡ s = setup_same digest old mid m.setup in
-      let went : event s mid.world e ≡ Went the_draft new.world =
-      subst (λ (t : Setup). event t mid.world e ≡ Went (draft t mid.world e) new.world) same g.went in
+      let went : event s mid.world e ≡ Went the_pending new.world =
+      subst (λ (t : Setup). event t mid.world e ≡ Went (pending t mid.world e) new.world) same g.went in
       record {
         setup = same_again old mid new m.setup g.setup;
         going = g.going;
-        front = m.front ++ one ∷ [];
-        joined = m.joined ∙ ap (λ (a : Answer). behind m.front (goes_on e a (λ next. played_from s next rest))) went ∙ behind-onto m.front one (played_from s new.world rest);
-        left = world_after-last old.world m.front one;
-        count = let n : length (m.front ++ one ∷ []) ≡ length m.front + 1 = length-append m.front (one ∷ []) in let so_far = m.count in omega (arith, n, so_far);
-        trace = g.trace ∙ ap (λ (t : Setup). mid.trace ++ record_of e (draft t mid.world e) ∷ []) same
-            ∙ ap (λ (rs : List Record). rs ++ record_of e the_draft ∷ []) m.trace
-            ∙ append_assoc old.trace (map record_passed m.front) (record_of e the_draft ∷ [])
-            ∙ ap (λ (rs : List Record). old.trace ++ rs) (sym (map-append record_passed m.front (one ∷ [])));
+        prefix = m.prefix ++ one ∷ [];
+        joined = m.joined ∙ ap (λ (a : Answer). behind m.prefix (goes_on e a (λ next. played_from s next rest))) went
+            ∙ behind-onto m.prefix one (played_from s new.world rest);
+        left = world_after-last old.world m.prefix one;
+        count = let n : length (m.prefix ++ one ∷ []) ≡ length m.prefix + 1 = length-append m.prefix (one ∷ []) in let so_far = m.count in omega (arith, n, so_far);
+        trace = g.trace ∙ ap (λ (t : Setup). mid.trace ++ record_of e (pending t mid.world e) ∷ []) same
+            ∙ ap (λ (rs : List Record). rs ++ record_of e the_pending ∷ []) m.trace
+            ∙ append_assoc old.trace (map record_passed m.prefix) (record_of e the_pending ∷ [])
+            ∙ ap (λ (rs : List Record). old.trace ++ rs) (sym (map-append record_passed m.prefix (one ∷ [])));
       }
 
   pub no_more : (n : ℕ) (halt : Halt) → slice_get es n ≡ Some e → Stops digest mid new e halt → Plays digest old new es (Some (n, halt))
@@ -121,14 +122,14 @@ module _ {H : Type 0} (digest : H → List ℕ → List ℕ) (old mid new : worl
       let stopped : event s mid.world e ≡ Halted (k.0) =
       subst (λ (t : Setup). event t mid.world e ≡ Halted (k.0)) same (k.2) in
       let last : Progress = record { passed = []; halt = Some (e, k.0) } in
-      let whole : played_from s old.world es ≡ behind m.front last =
-      m.joined ∙ ap (λ (a : Answer). behind m.front (goes_on e a (λ next. played_from s next rest))) stopped in
-      let passed : (played_from s old.world es).passed ≡ m.front =
-      ap (λ (p : Progress). p.passed) whole ∙ passed-behind m.front last ∙ append-nil m.front in
+      let whole : played_from s old.world es ≡ behind m.prefix last =
+      m.joined ∙ ap (λ (a : Answer). behind m.prefix (goes_on e a (λ next. played_from s next rest))) stopped in
+      let passed : (played_from s old.world es).passed ≡ m.prefix =
+      ap (λ (p : Progress). p.passed) whole ∙ passed-behind m.prefix last ∙ append-nil m.prefix in
       record {
         setup = same_again old mid new m.setup g.setup;
         going = λ e. absurd (cc);
-        stops = (e, k.0, at, k.1, ap (λ (p : Progress). p.halt) whole ∙ halt-behind m.front last);
+        stops = (e, k.0, at, k.1, ap (λ (p : Progress). p.halt) whole ∙ halt-behind m.prefix last);
         trace = g.trace ∙ m.trace ∙ ap (λ (ps : List Passed). old.trace ++ map record_passed ps) (sym passed);
         left = g.left ∙ ap (λ (w : World). record w { hashed = new.world.hashed }) (sym m.left ∙ ap (world_after old.world) (sym passed));
         whole = λ e. absurd (cc);
@@ -150,17 +151,18 @@ pub ends : {H : Type 0} (digest : H → List ℕ → List ℕ) (old new : world.
 ends digest old new es m =
     let s : Setup = setup_in digest old in
     let last : Progress = record { passed = []; halt = None } in
-    let passed : (played_from s old.world es).passed ≡ m.front =
-    ap (λ (p : Progress). p.passed) m.joined ∙ passed-behind m.front last ∙ append-nil m.front in
+    let passed : (played_from s old.world es).passed ≡ m.prefix =
+    ap (λ (p : Progress). p.passed) m.joined ∙ passed-behind m.prefix last ∙ append-nil m.prefix in
     let left : new.world ≡ world_after old.world (played_from s old.world es).passed = sym m.left ∙ ap (world_after old.world) (sym passed) in
     record {
       setup = m.setup;
       going = λ _. m.going;
-      stops = ap (λ (p : Progress). p.halt) m.joined ∙ halt-behind m.front last;
+      stops = ap (λ (p : Progress). p.halt) m.joined ∙ halt-behind m.prefix last;
       trace = m.trace ∙ ap (λ (ps : List Passed). old.trace ++ map record_passed ps) (sym passed);
       left = ap (λ (w : World). record w { hashed = new.world.hashed }) left;
       whole = λ _. left;
     }
 
-pub ends_at : {H : Type 0} (digest : H → List ℕ → List ℕ) (old new : world.Played H) (es : List Event) (n : ℕ) → length es ≤ n → Midway digest old new es (drop n es) → Plays digest old new es None
+pub ends_at : {H : Type 0} (digest : H → List ℕ → List ℕ) (old new : world.Played H) (es : List Event) (n : ℕ) → length es ≤ n
+    → Midway digest old new es (drop n es) → Plays digest old new es None
 ends_at digest old new es n over m = ends digest old new es (subst (Midway digest old new es) (drop_of_length-le es over) m)

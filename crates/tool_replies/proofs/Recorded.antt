@@ -5,7 +5,7 @@ use Rattle.spec_run.specs.declared.event.Event.{Event}
 use Rattle.spec_run.specs.declared.outcome.Record.{Record}
 use Rattle.spec_run.specs.Setup.{Setup}
 use Rattle.spec_run.specs.World.{World}
-use Rattle.spec_run.specs.Draft.{Answer, Went, Halted}
+use Rattle.spec_run.specs.Pending.{Answer, Went, Halted}
 use Rattle.spec_run.specs.Event.{Progress, goes_on, played_from, event}
 use Rattle.tool_replies.specs.Going.{record_passed}
 

@@ -2,8 +2,8 @@
 use Rattle.std.specs.Prelude.{◌≡◌, ℕ, ◌+◌, List, [], ◌∷◌, ◌++◌, length, map, slice_get, Option, Some, None, option_map}
 use Rattle.spec_run.specs.declared.event.Event.{Event}
 use Rattle.spec_run.specs.declared.outcome.Record.{Record}
-use Rattle.spec_run.specs.Draft.{Halted}
-use Rattle.spec_run.specs.Draft as draft
+use Rattle.spec_run.specs.Pending.{Halted}
+use Rattle.spec_run.specs.Pending as pending
 use Rattle.spec_run.specs.Event as run
 use Rattle.spec_run.specs.Event.{Passed, Progress, onto_passed, played_from, record_of}
 use Rattle.spec_run.specs.Translation.{world_after}
@@ -18,8 +18,8 @@ use Rattle.bm_world.specs.declared.halt.Halt.{Halt}
 pub record GoesOn {H : Type 0} (digest : H → List ℕ → List ℕ) (old new : world.Played H) (e : Event) : Type 0 where
   pub setup : SameSetup old new
   pub going : new.halt ≡ None
-  pub went : run.event (setup_in digest old) old.world e ≡ draft.Went (run.draft (setup_in digest old) old.world e) new.world
-  pub trace : new.trace ≡ old.trace ++ record_of e (run.draft (setup_in digest old) old.world e) ∷ []
+  pub went : run.event (setup_in digest old) old.world e ≡ pending.Went (run.pending (setup_in digest old) old.world e) new.world
+  pub trace : new.trace ≡ old.trace ++ record_of e (run.pending (setup_in digest old) old.world e) ∷ []
 
 -- it was halted by this, and nothing changed but the messages that were hashed
 pub record Stops {H : Type 0} (digest : H → List ℕ → List ℕ) (old new : world.Played H) (e : Event) (halt : Halt) : Type 0 where
@@ -35,7 +35,7 @@ Steps digest old new e (Some halt) = Stops digest old new e halt
 -- ---- several
 
 abbrev pub record_passed : Passed → Record
-record_passed p = record_of p.event p.draft
+record_passed p = record_of p.event p.pending
 
 -- events that went on before others that are played
 abbrev pub behind : List Passed → Progress → Progress
@@ -46,17 +46,17 @@ behind (p ∷ ps) later = onto_passed p (behind ps later)
 pub record Midway {H : Type 0} (digest : H → List ℕ → List ℕ) (old now : world.Played H) (es rest : List Event) : Type 0 where
   pub setup : SameSetup old now
   pub going : now.halt ≡ None
-  pub front : List Passed
-  pub joined : played_from (setup_in digest old) old.world es ≡ behind front (played_from (setup_in digest old) now.world rest)
-  pub left : world_after old.world front ≡ now.world
-  pub count : length front + length rest ≡ length es
-  pub trace : now.trace ≡ old.trace ++ map record_passed front
+  pub prefix : List Passed
+  pub joined : played_from (setup_in digest old) old.world es ≡ behind prefix (played_from (setup_in digest old) now.world rest)
+  pub left : world_after old.world prefix ≡ now.world
+  pub count : length prefix + length rest ≡ length es
+  pub trace : now.trace ≡ old.trace ++ map record_passed prefix
 
 -- the halt of these events, with its event
-abbrev pub StopIs : List Event → Option (ℕ × Halt) → Option (Event × draft.Halt) → Type 0
+abbrev pub StopIs : List Event → Option (ℕ × Halt) → Option (Event × pending.Halt) → Type 0
 StopIs es None first = first ≡ None
 StopIs es (Some stop) first =
-    (e : Event) × (h : draft.Halt) × (slice_get es (stop.0) ≡ Some e) × (halt_of (stop.1) ≡ Some h) × (first ≡ Some (e, h))
+    (e : Event) × (h : pending.Halt) × (slice_get es (stop.0) ≡ Some e) × (halt_of (stop.1) ≡ Some h) × (first ≡ Some (e, h))
 
 -- how a run of events left a world that they were played from: stopped as is said, and everything recorded
 pub record Plays {H : Type 0} (digest : H → List ℕ → List ℕ) (old new : world.Played H) (es : List Event) (stop : Option (ℕ × Halt)) : Type 0 where

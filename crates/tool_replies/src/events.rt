@@ -13,7 +13,7 @@ use spec_data::OutOfMemory;
 use spec_run::Event;
 use std::alloc::AllocError;
 
-// What halts an event, but for want of memory.
+// What halts an event, but as memory ran out.
 fn stop_of(halt: Halt) -> Result<Option<Halt>, OutOfMemory>
     ensures stop { IfOk result (λ stop. stop ≡ Some halt) }
     ensures memory { IfOk result (λ _. halt ≢ Memory) }

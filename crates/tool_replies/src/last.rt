@@ -18,10 +18,10 @@ use spec_run::Run;
 use std::alloc::Global;
 use std::mem::forget;
 
-/// Lets go of a world, or of its records and their steps. Their memory goes back with the process: a program writes its answer next and ends, and to give
+/// drops a world, or of its records and their steps. Their memory goes back with the process: a program writes its answer next and ends, and to give
 /// back piece by piece what a long run holds would take a sixth of its time. Nothing else lets a world go, here or in the crates of
 /// further replies.
-pub fn let_go<T: Drop>(held: T) {
+pub fn leak<T: Drop>(held: T) {
     forget(held);
 }
 
@@ -33,7 +33,7 @@ fn last_of<H: Hash32 + Drop>(world: World<H>, stop: Option<(usize, Halt)>) -> Re
     match stop {
         None => Ok(world),
         Some((_, halt)) => {
-            let_go(world);
+            leak(world);
             Err(halt)
         }
     }

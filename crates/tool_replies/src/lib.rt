@@ -1,4 +1,5 @@
-//! A run is played: its events one by one, up to the first that halts it; and what the commands that play one reply.
+//! Plays a run from its files and gives the reply of each command that needs one: `play`, `plan`, `psbt`, `weigh` and
+//! `make`.
 #![tactic(auto)]
 
 mod ends;
@@ -14,8 +15,8 @@ mod weigh;
 
 pub use ends::ending_by;
 pub use halting::halt_reply;
-pub use last::{let_go, play_to_end};
-pub use made::made_reply;
+pub use last::{leak, play_to_end};
+pub use made::generated_reply;
 pub use plan::plan_reply;
 pub use played::play;
 pub use psbt::psbt_reply;

@@ -14,7 +14,7 @@ ghost use Rattle.tool_replies.specs.Whole.{IsLeft};
 ghost use Rattle.tool_replies.specs.Counted.{run_counts};
 
 use crate::halting::halt_reply;
-use crate::last::{let_go, play_to_end};
+use crate::last::{leak, play_to_end};
 use bm_hash::Hash32;
 use bm_plan::counts_text;
 use bm_translate_course::{Counted, count_steps};
@@ -77,7 +77,7 @@ fn counted<H: Hash32 + Drop>(alloc: Global, world: &World<H>) -> Result<Reply, O
 
 /// What `make` replies to a run and its contracts. The run is let go once it is played: what is printed is read off the world that it
 /// left.
-pub fn made_reply<H: Hash32 + Drop>(
+pub fn generated_reply<H: Hash32 + Drop>(
     alloc: Global,
     hash: H,
     run: Run,
@@ -94,7 +94,7 @@ pub fn made_reply<H: Hash32 + Drop>(
         Ok(world) => {
             drop(run);
             let reply = counted(alloc, &world);
-            let_go(world);
+            leak(world);
             reply
         }
     }

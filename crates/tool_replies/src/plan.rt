@@ -11,7 +11,7 @@ ghost use Rattle.spec_tool.specs.Replies.{printed};
 ghost use Rattle.bm_world.specs.Playing.{setup_in};
 
 use crate::halting::halt_reply;
-use crate::last::{let_go, play_to_end};
+use crate::last::{leak, play_to_end};
 use bm_hash::Hash32;
 use bm_plan::plan_text;
 use bm_wellformed::Checked;
@@ -47,7 +47,7 @@ pub fn plan_reply<H: Hash32 + Drop>(
         Err(halt) => halt_reply(alloc, &halt),
         Ok(world) => {
             let reply = planned(alloc, &world);
-            let_go(world);
+            leak(world);
             reply
         }
     }

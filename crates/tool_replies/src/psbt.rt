@@ -11,7 +11,7 @@ ghost use Rattle.bm_world.specs.Playing.{setup_in};
 ghost use Rattle.tool_replies.specs.Last.{IsLeftBySome};
 
 use crate::halting::halt_reply;
-use crate::last::{let_go, play_to_end};
+use crate::last::{leak, play_to_end};
 use bm_hash::Hash32;
 use bm_psbt_plan::psbt_text;
 use bm_wellformed::Checked;
@@ -79,7 +79,7 @@ pub fn psbt_reply<H: Hash32 + Drop>(
         Err(halt) => halt_reply(alloc, &halt),
         Ok(world) => {
             let reply = signed(alloc, &world, which);
-            let_go(world);
+            leak(world);
             reply
         }
     }

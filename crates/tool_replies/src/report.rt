@@ -16,7 +16,7 @@ ghost use Rattle.tool_replies.specs.Whole.{IsLeft};
 
 use crate::ends::halted_ending;
 use crate::halting::halt_reply;
-use crate::last::let_go;
+use crate::last::leak;
 use crate::played::play;
 use bm_hash::Hash32;
 use bm_report::Ending;
@@ -45,8 +45,8 @@ fn shown_reply<H: Hash32 + Drop>(
 {
     let (header, trace) = world.into_records();
     let reply = report_reply(alloc, &header, trace.as_slice(), &steps, end);
-    let_go(trace);
-    let_go(steps);
+    leak(trace);
+    leak(steps);
     reply
 }
 

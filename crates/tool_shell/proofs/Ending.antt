@@ -12,7 +12,7 @@ use Rattle.tool_shell.specs.declared.reading.Reading.{Reading}
 use Rattle.tool_shell.specs.Answered.{AnswersByOrGivesUp, Answered}
 use Rattle.tool_shell.specs.Around.{Around, around, Ends}
 use Rattle.tool_shell.specs.Files.{reads_of, Tells, ReadsAll, RoseIfFailed}
-use Rattle.tool_shell.specs.Logs.{entries, asked_in, Logs, LogsFront}
+use Rattle.tool_shell.specs.Logs.{entries, asked_in, Logs, LogsPrefix}
 use Rattle.tool_shell.specs.Replied.{Standing, Replied}
 use Rattle.tool_shell.proofs.Logged.{log_begins}
 use Rattle.tool_shell.proofs.Texts.{failed_if}
@@ -74,17 +74,17 @@ answers_reply answers asks before now reply whole written written_now failed fai
   ends = subst (λ (p : Printed). Ends p written written_now failed failed_now status) (same ∙ h.reply_is) e;
 })
 
--- ---- want of memory
+-- ---- out of memory
 
-asked_front : (files : List Asked) (reads : List Read) → map asked_in (entries files reads) ≡ take (length (entries files reads)) files
-asked_front [] reads = refl
-asked_front (file ∷ files) [] = refl
-asked_front (file ∷ files) (read ∷ reads) = ap (λ (fs : List Asked). file ∷ fs) (asked_front files reads)
+asked_prefix : (files : List Asked) (reads : List Read) → map asked_in (entries files reads) ≡ take (length (entries files reads)) files
+asked_prefix [] reads = refl
+asked_prefix (file ∷ files) [] = refl
+asked_prefix (file ∷ files) (read ∷ reads) = ap (λ (fs : List Asked). file ∷ fs) (asked_prefix files reads)
 
 -- after the reads of these files, which are the command's
-pub wanted_after : {X E : Type 0} (r : Result X E) (before now : List Entry) (taken taken_now : ℕ) (files named : List Asked)
+pub short_after : {X E : Type 0} (r : Result X E) (before now : List Entry) (taken taken_now : ℕ) (files named : List Asked)
     (reads : List Read)
-    → files ≡ named → Logs before now taken taken_now files reads → OnErr r (LogsFront before now named)
-wanted_after (Ok value) before now taken taken_now files named reads e h = tt
-wanted_after (Err error) before now taken taken_now files named reads e h =
-    subst (λ (fs : List Asked). LogsFront before now fs) e (entries files reads, (h.logged, asked_front files reads))
+    → files ≡ named → Logs before now taken taken_now files reads → OnErr r (LogsPrefix before now named)
+short_after (Ok value) before now taken taken_now files named reads e h = tt
+short_after (Err error) before now taken taken_now files named reads e h =
+    subst (λ (fs : List Asked). LogsPrefix before now fs) e (entries files reads, (h.logged, asked_prefix files reads))

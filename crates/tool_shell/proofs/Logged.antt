@@ -11,7 +11,7 @@ use Rattle.bm_io.specs.declared.files.ReadError.TheVariants.{Memory}
 use Rattle.spec_tool.specs.Reads.{Asked, Read, Text, failed}
 use Rattle.tool_shell.specs.Files.{read_of, taken}
 use Rattle.tool_shell.specs.Asked.{asked}
-use Rattle.tool_shell.specs.Logs.{entry, entries, asked_in, beyond, all_beyond, Logs, LogsOne, LogsWant, LogsFront}
+use Rattle.tool_shell.specs.Logs.{entry, entries, asked_in, beyond, all_beyond, Logs, LogsOne, LogsShortage, LogsPrefix}
 use Rattle.tool_shell.proofs.Told.{asked_is, before_end}
 
 -- ---- counts
@@ -55,7 +55,7 @@ logs_next before mid now x y z files reads file read less h one = record {
       (rose_twice (all_beyond files reads) (beyond (get_or files (length reads) file) read) x y z h.counted one.counted);
 }
 
--- ---- want of memory
+-- ---- out of memory
 
 asked_entries : (files : List Asked) (reads : List Read) → length reads ≤ length files
     → map asked_in (entries files reads) ≡ take (length reads) files
@@ -71,15 +71,15 @@ length_entries (f ∷ files) [] le = refl
 length_entries (f ∷ files) (r ∷ reads) le = let later = length_entries files reads (omega (arith, le)) in omega (arith, later)
 
 -- after some reads
-fronts_after : (before now : List Reply) (x y : ℕ) (files : List Asked) (reads : List Read) → length reads ≤ length files
-    → Logs before now x y files reads → LogsFront before now files
-fronts_after before now x y files reads le h =
+prefixes_after : (before now : List Reply) (x y : ℕ) (files : List Asked) (reads : List Read) → length reads ≤ length files
+    → Logs before now x y files reads → LogsPrefix before now files
+prefixes_after before now x y files reads le h =
     (entries files reads, (h.logged, asked_entries files reads le ∙ ap (λ (n : ℕ). take n files) (sym (length_entries files reads le))))
 
 -- in a read after some
-fronts_in : (before mid now : List Reply) (x y : ℕ) (files : List Asked) (reads : List Read) (file : Asked) → length reads < length files
-    → Logs before mid x y files reads → LogsWant mid now (get_or files (length reads) file) → LogsFront before now files
-fronts_in before mid now x y files reads file less h want =
+prefixes_in : (before mid now : List Reply) (x y : ℕ) (files : List Asked) (reads : List Read) (file : Asked) → length reads < length files
+    → Logs before mid x y files reads → LogsShortage mid now (get_or files (length reads) file) → LogsPrefix before now files
+prefixes_in before mid now x y files reads file less h shortage =
     let last = get_or files (length reads) file in
     let es = entries files reads in
     let one = reply_of (last.0) (last.1) (Err Memory) in
@@ -87,7 +87,7 @@ fronts_in before mid now x y files reads file less h want =
     length-append es (one ∷ []) ∙ ap (λ (n : ℕ). n + 1) (length_entries files reads (omega (arith, less))) ∙ add-one (length reads) in (
       es ++ one ∷ [],
       (
-        want ∙ ap (λ (log : List Reply). log ++ one ∷ []) h.logged ∙ append_assoc before es (one ∷ []),
+        shortage ∙ ap (λ (log : List Reply). log ++ one ∷ []) h.logged ∙ append_assoc before es (one ∷ []),
         map-append asked_in es (one ∷ [])
             ∙ ap (λ (fs : List Asked). fs ++ last ∷ []) (asked_entries files reads (omega (arith, less)))
             ∙ sym (take-suc files (length reads) file less)
@@ -125,18 +125,18 @@ module _ (before mid now : List Reply) (x y z : ℕ) (list : List (Bor (List ℕ
       → Logs before now x z (map asked list) (taken texts ++ failed ∷ [])
   log_fails o is one = more failed (subst (λ (p : Option Text). LogsOne mid now y z (asked (get_or list i d)) (read_of p)) is one)
 
-  pub log_wants : LogsWant mid now (asked (get_or list i d)) → LogsFront before now (map asked list)
-  log_wants want =
-      fronts_in before mid now x y (map asked list) (taken texts) (asked d) inside h
-      (subst (λ (file : Asked). LogsWant mid now file) file_is want)
+  pub log_shortages : LogsShortage mid now (asked (get_or list i d)) → LogsPrefix before now (map asked list)
+  log_shortages shortage =
+      prefixes_in before mid now x y (map asked list) (taken texts) (asked d) inside h
+      (subst (λ (file : Asked). LogsShortage mid now file) file_is shortage)
 
--- where memory was wanting after these texts
-pub log_front : (before now : List Reply) (x y : ℕ) (list : List (Bor (List ℕ) × ℕ)) (texts : List Text) → length texts ≤ length list
-    → Logs before now x y (map asked list) (taken texts) → LogsFront before now (map asked list)
-log_front before now x y list texts le h =
+-- where memory ran out after these texts
+pub log_prefix : (before now : List Reply) (x y : ℕ) (list : List (Bor (List ℕ) × ℕ)) (texts : List Text) → length texts ≤ length list
+    → Logs before now x y (map asked list) (taken texts) → LogsPrefix before now (map asked list)
+log_prefix before now x y list texts le h =
     let one : length (taken texts) ≡ length texts = length-map texts (λ (text : Text). read_of (Some text)) in
     let all : length (map asked list) ≡ length list = length-map list asked in
-    fronts_after before now x y (map asked list) (taken texts) (omega (arith, le, one, all)) h
+    prefixes_after before now x y (map asked list) (taken texts) (omega (arith, le, one, all)) h
 
 -- all were read
 pub log_ends : (before now : List Reply) (x y : ℕ) (files : List Asked) (texts : List Text) → Logs before now x y files (taken texts)

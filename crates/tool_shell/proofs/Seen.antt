@@ -7,8 +7,8 @@ use Rattle.bm_io.specs.Files.{Told}
 use Rattle.tool_shell.specs.Answered.{AnswersByOrGivesUp, Answered}
 use Rattle.tool_shell.specs.Around.{Around, Ends}
 use Rattle.tool_shell.specs.Asked.{all_asked}
-use Rattle.tool_shell.specs.Files.{AsksFront}
-use Rattle.tool_shell.specs.Logs.{LogsFront}
+use Rattle.tool_shell.specs.Files.{AsksPrefix}
+use Rattle.tool_shell.specs.Logs.{LogsPrefix}
 
 -- equal answers
 same_answers : (one other : List Read → Printed) (files : Option (List Asked)) (before now : Around) (status : ℕ)
@@ -24,7 +24,7 @@ same_answers one other files before now status e (inl a) = inl (record {
 })
 same_answers one other files before now status e (inr g) = inr g
 
-asks_none : (told : Option Told) (files : List Asked) → AsksFront told told files
+asks_none : (told : Option Told) (files : List Asked) → AsksPrefix told told files
 asks_none None files = refl
 asks_none (Some told) files = (0, ap (λ names. Some (record told { asked = names })) (sym (append-nil told.asked)))
 
@@ -35,8 +35,8 @@ gives_up_early answers files before now status some e same = inr (record {
   some = some;
   status_is = e;
   written = ap (λ (a : Around). a.written) same;
-  logged = subst (λ (a : Around). LogsFront before.log a.log (all_asked files)) (sym same) ([], (sym (append-nil before.log), refl));
-  told = subst (λ (a : Around). AsksFront before.told a.told (all_asked files)) (sym same)
+  logged = subst (λ (a : Around). LogsPrefix before.log a.log (all_asked files)) (sym same) ([], (sym (append-nil before.log), refl));
+  told = subst (λ (a : Around). AsksPrefix before.told a.told (all_asked files)) (sym same)
       (asks_none before.told (all_asked files));
 })
 

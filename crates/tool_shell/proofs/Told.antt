@@ -12,7 +12,7 @@ use Rattle.bm_io.specs.declared.files.ReadError.TheVariants as errors
 use Rattle.bm_io.specs.Files as io
 use Rattle.bm_io.specs.Files.{Told}
 use Rattle.spec_tool.specs.Reads.{Asked, Read, Text, got, too_long, failed, are_made, fits, all_fit, within, is_to_fail, read_at, reads_in, onto_reads}
-use Rattle.tool_shell.specs.Files.{read_of, taken, asked_also, ReadsOne, AsksOne, Tells, ReadsAll, AsksFront, Went}
+use Rattle.tool_shell.specs.Files.{read_of, taken, asked_also, ReadsOne, AsksOne, Tells, ReadsAll, AsksPrefix, Went}
 use Rattle.tool_shell.specs.Asked.{asked}
 
 -- ---- one read
@@ -36,17 +36,19 @@ number_is : (failing : Option ℕ) (n : ℕ) → io.is_number failing n ≡ is_t
 number_is None n = refl
 number_is (Some k) n = refl
 
-answer_is : (b : Bool) (limit : ℕ) (found : Option (List ℕ)) → read_for (cond b (Err errors.Failed) (io.answer_of_file limit found)) ≡ cond b failed (within limit found)
+answer_is : (b : Bool) (limit : ℕ) (found : Option (List ℕ)) → read_for (cond b (Err errors.Failed) (io.answer_of_file limit found))
+    ≡ cond b failed (within limit found)
 answer_is true limit found = refl
 answer_is false limit found = found_is limit found
 
 -- what files in which a read is to fail answer is what the definitions say of it
-pub read_is : (told : Told) (name : List ℕ) (limit : ℕ) → read_for (io.answer_of told name limit) ≡ read_at told.files told.failing (length told.asked) (name, limit)
+pub read_is : (told : Told) (name : List ℕ) (limit : ℕ) → read_for (io.answer_of told name limit)
+    ≡ read_at told.files told.failing (length told.asked) (name, limit)
 read_is told name limit =
     answer_is (io.is_number told.failing (length told.asked)) limit (look_up name told.files)
     ∙ ap (λ b. cond b failed (within limit (look_up name told.files))) (number_is told.failing (length told.asked))
 
--- a read that memory wasn't wanting for
+-- a read that memory wasn't missing for
 pub reads_one : (before now : Option Told) (name : List ℕ) (limit : ℕ) (t : Option Text) (r : Result (List ℕ) ReadError)
     → read_of t ≡ read_for r → (r ≡ Err errors.Memory → ⊥) → io.Reads before now name limit r → ReadsOne before now (name, limit) (read_of t)
 reads_one None now name limit t r e n h = h
@@ -71,7 +73,8 @@ onto_taken (Some bytes) later = refl
 
 -- where the read of this number is told in words of the files behind it
 next_reads : (there : List (List ℕ × List ℕ)) (failing : Option ℕ) (k n : ℕ) (files : List Asked) (file : Asked) → n < length files
-    → reads_in there failing (k + n) (drop n files) ≡ onto_reads (read_at there failing (k + n) (get_or files n file)) (reads_in there failing (k + n + 1) (drop (suc n) files))
+    → reads_in there failing (k + n) (drop n files)
+    ≡ onto_reads (read_at there failing (k + n) (get_or files n file)) (reads_in there failing (k + n + 1) (drop (suc n) files))
 next_reads there failing k n files file less = ap (reads_in there failing (k + n)) (drop-cons files n file less)
 
 asked_next : (told : Told) (files : List Asked) (n : ℕ) (file : Asked) → n < length files
@@ -105,7 +108,8 @@ went_on (Some told) mid now files texts file t less h r =
           ∙ ap (λ m. taken (texts ++ t ∷ []) ++ reads_in told.files told.failing m (drop (suc n) files)) number
           ∙ ap (λ rs. rs ++ later) (map-append (λ (x : Text). read_of (Some x)) texts (t ∷ []))
           ∙ append_assoc (taken texts) (read_of (Some t) ∷ []) later
-          ∙ ap (λ rs. taken texts ++ rs) (sym (onto_taken t later) ∙ ap (λ read. onto_reads read later) same ∙ sym (next_reads told.files told.failing k n files file less))
+          ∙ ap (λ rs. taken texts ++ rs) (sym (onto_taken t later) ∙ ap (λ read. onto_reads read later) same
+          ∙ sym (next_reads told.files told.failing k n files file less))
           ∙ h.0,
       one.1 ∙ ap Some (asked_next told files n file less ∙ ap (λ m. asked_also told (take m (names_of files))) (sym counted)),
     )
@@ -140,29 +144,32 @@ went_through (Some told) now files texts e h =
       h.1 ∙ ap (λ m. Some (asked_also told (take m (names_of files)))) (sym counted),
     )
 
--- ---- want of memory
+-- ---- out of memory
 
 take_none : {A : Type 0} (m : ℕ) → take m (let none : List A = [] in none) ≡ []
 take_none zero = refl
 take_none (suc m) = refl
 
 asked_some : (told : Told) (now : Option Told) (files : List Asked) (n : ℕ) (file : Asked) (m : ℕ) → n < length files
-    → now ≡ Some (asked_also (asked_also told (take n (names_of files))) (take m ((get_or files n file).0 ∷ []))) → AsksFront (Some told) now files
+    → now ≡ Some (asked_also (asked_also told (take n (names_of files))) (take m ((get_or files n file).0 ∷ []))) → AsksPrefix (Some told) now files
 asked_some told now files n file zero less e =
     (n, e ∙ ap (λ names. Some (record told { asked = names })) (append-nil (told.asked ++ take n (names_of files))))
-asked_some told now files n file (suc m) less e =
-    (suc n, e ∙ ap Some (ap (λ names. asked_also (asked_also told (take n (names_of files))) ((get_or files n file).0 ∷ names)) (take_none m) ∙ asked_next told files n file less))
+asked_some told now files n file (suc m) less e = (
+  suc n,
+  e ∙ ap Some (ap (λ names. asked_also (asked_also told (take n (names_of files))) ((get_or files n file).0 ∷ names))
+      (take_none m) ∙ asked_next told files n file less),
+)
 
 -- before the next file, or behind it
-pub asks_front : (before mid now : Option Told) (files : List Asked) (texts : List Text) (file : Asked) → length texts < length files
-    → Went before mid files texts → AsksOne mid now ((get_or files (length texts) file).0) → AsksFront before now files
-asks_front None mid now files texts file less h r = subst (λ m. AsksOne m now ((get_or files (length texts) file).0)) h r
-asks_front (Some told) mid now files texts file less h r =
+pub asks_prefix : (before mid now : Option Told) (files : List Asked) (texts : List Text) (file : Asked) → length texts < length files
+    → Went before mid files texts → AsksOne mid now ((get_or files (length texts) file).0) → AsksPrefix before now files
+asks_prefix None mid now files texts file less h r = subst (λ m. AsksOne m now ((get_or files (length texts) file).0)) h r
+asks_prefix (Some told) mid now files texts file less h r =
     let one = subst (λ m. AsksOne m now ((get_or files (length texts) file).0)) (h.1) r in
     asked_some told now files (length texts) file (one.0) less (one.1)
 
 -- the texts so far
-pub asks_so_far : (before now : Option Told) (files : List Asked) (texts : List Text) → Went before now files texts → AsksFront before now files
+pub asks_so_far : (before now : Option Told) (files : List Asked) (texts : List Text) → Went before now files texts → AsksPrefix before now files
 asks_so_far None now files texts h = h
 asks_so_far (Some told) now files texts h = (length texts, h.1)
 
@@ -203,21 +210,25 @@ pub on_err : {X E : Type 0} (r : Result X E) (P : Type 0) → P → OnErr r P
 on_err (Ok x) P p = tt
 on_err (Err e) P p = p
 
-pub asked_is : (list : List (Bor (List ℕ) × ℕ)) (d : Bor (List ℕ) × ℕ) (i n : ℕ) → n ≡ i → i < length list → asked (get_or list i d) ≡ get_or (map asked list) n (asked d)
+pub asked_is : (list : List (Bor (List ℕ) × ℕ)) (d : Bor (List ℕ) × ℕ) (i n : ℕ) → n ≡ i → i < length list → asked (get_or list i d)
+    ≡ get_or (map asked list) n (asked d)
 asked_is list d i n e less = sym (get_or-map asked list i d (asked d) less) ∙ ap (λ m. get_or (map asked list) m (asked d)) (sym e)
 
 pub before_end : (list : List (Bor (List ℕ) × ℕ)) (i n : ℕ) → n ≡ i → i < length list → n < length (map asked list)
 before_end list i n e less = let f : length (map asked list) ≡ length list = length-map list asked in omega (arith, e, f, less)
 
-module _ (before mid now : Option Told) (list : List (Bor (List ℕ) × ℕ)) (d : Bor (List ℕ) × ℕ) (i : ℕ) (texts : List Text) (e : length texts ≡ i) (less : i < length list) (h : Went before mid (map asked list) texts)
+module _ (before mid now : Option Told) (list : List (Bor (List ℕ) × ℕ)) (d : Bor (List ℕ) × ℕ) (i : ℕ) (texts : List Text)
+    (e : length texts ≡ i) (less : i < length list) (h : Went before mid (map asked list) texts)
     (fit : all_fit (map asked list) texts ≡ true) where
-  pub list_goes_on : (o : Option Text) (t : Text) → o ≡ Some t → ReadsOne mid now (asked (get_or list i d)) (read_of o) → Went before now (map asked list) (texts ++ t ∷ [])
+  pub list_goes_on : (o : Option Text) (t : Text) → o ≡ Some t → ReadsOne mid now (asked (get_or list i d)) (read_of o)
+      → Went before now (map asked list) (texts ++ t ∷ [])
   list_goes_on o t is r =
       went_on before mid now (map asked list) texts (asked d) t (before_end list i (length texts) e less) h
       (subst (λ (file : Asked). ReadsOne mid now file (read_of (Some t))) (asked_is list d i (length texts) e less)
       (subst (λ (x : Option Text). ReadsOne mid now (asked (get_or list i d)) (read_of x)) is r))
 
-  pub list_fails : (o : Option Text) → o ≡ None → ReadsOne mid now (asked (get_or list i d)) (read_of o) → ReadsAll before now (map asked list) (taken texts ++ failed ∷ [])
+  pub list_fails : (o : Option Text) → o ≡ None → ReadsOne mid now (asked (get_or list i d)) (read_of o)
+      → ReadsAll before now (map asked list) (taken texts ++ failed ∷ [])
   list_fails o is r = record {
     made = made_some (map asked list) texts (before_end list i (length texts) e less) fit;
     told = went_no_further before mid now (map asked list) texts (asked d) (before_end list i (length texts) e less) h
@@ -232,9 +243,9 @@ module _ (before mid now : Option Told) (list : List (Bor (List ℕ) × ℕ)) (d
       (subst (λ (file : Asked). fits file t ≡ true) (asked_is list d i (length texts) e less)
       (subst (λ (x : Option Text). IfSome x (λ y. fits (asked (get_or list i d)) y ≡ true)) is r))
 
-  pub list_asks : AsksOne mid now ((asked (get_or list i d)).0) → AsksFront before now (map asked list)
+  pub list_asks : AsksOne mid now ((asked (get_or list i d)).0) → AsksPrefix before now (map asked list)
   list_asks r =
-      asks_front before mid now (map asked list) texts (asked d) (before_end list i (length texts) e less) h
+      asks_prefix before mid now (map asked list) texts (asked d) (before_end list i (length texts) e less) h
       (subst (λ (file : Asked). AsksOne mid now (file.0)) (asked_is list d i (length texts) e less) r)
 
 -- all were read

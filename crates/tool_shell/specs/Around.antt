@@ -32,13 +32,13 @@ abbrev pub with_text : List ℕ → List (List ℕ) → List (List ℕ)
 with_text [] written = written
 with_text (byte ∷ bytes) written = written ++ (byte ∷ bytes) ∷ []
 
--- the text was written whole, where the write went through, and else a front of it, as one piece
+-- the text was written whole, where the write went through, and else a prefix of it, as one piece
 abbrev pub IsWritten : List ℕ → Bool → List (List ℕ) → List (List ℕ) → Type 0
 IsWritten text true before now = now ≡ with_text text before
 IsWritten [] false before now = now ≡ before
 IsWritten (byte ∷ bytes) false before now = (n : ℕ) × (now ≡ before ++ take n (byte ∷ bytes) ∷ [])
 
--- How a call ends that writes this: with its status, where all of the text was written, and else with 4 and a front of the text. A
+-- How a call ends that writes this: with its status, where all of the text was written, and else with 4 and a prefix of the text. A
 -- write fails only where the count of faults rose.
 pub record Ends (printed : Printed) (before now : List (List ℕ)) (faults faults_now : ℕ) (status : ℕ) : Type 0 where
   pub went : Bool

@@ -37,7 +37,7 @@ ReadsOne None now file read = now ≡ None
 ReadsOne (Some told) now file read =
     (read ≡ read_at told.files told.failing (length told.asked) file) × (now ≡ Some (asked_also told (file.0 ∷ [])))
 
--- a read for which memory was wanting asked for its file, or for none
+-- a read for which memory ran out asked for its file, or for none
 abbrev pub AsksOne : Option Told → Option Told → List ℕ → Type 0
 AsksOne None now name = now ≡ None
 AsksOne (Some told) now name = (n : ℕ) × (now ≡ Some (asked_also told (take n (name ∷ []))))
@@ -53,10 +53,10 @@ pub record ReadsAll (before now : Option Told) (files : List Asked) (reads : Lis
   pub made : are_made files reads ≡ true
   pub told : Tells before now files reads
 
--- reads for which memory was wanting asked for a front of the files
-abbrev pub AsksFront : Option Told → Option Told → List Asked → Type 0
-AsksFront None now files = now ≡ None
-AsksFront (Some told) now files = (n : ℕ) × (now ≡ Some (asked_also told (take n (map (λ file. file.0) files))))
+-- reads for which memory ran out asked for a prefix of the files
+abbrev pub AsksPrefix : Option Told → Option Told → List Asked → Type 0
+AsksPrefix None now files = now ≡ None
+AsksPrefix (Some told) now files = (n : ℕ) × (now ≡ Some (asked_also told (take n (map (λ file. file.0) files))))
 
 -- a read fails only where the count of faults rose
 abbrev pub RoseIfFailed : ℕ → ℕ → Reading → Type 0

@@ -54,10 +54,10 @@ pub record LogsOne (before now : List Reply) (taken taken_now : ℕ) (file : Ask
   pub logged : now ≡ before ++ entry file read ∷ []
   pub counted : RoseBy (beyond file read) taken taken_now
 
--- a read for which memory was wanting
-abbrev pub LogsWant : List Reply → List Reply → Asked → Type 0
-LogsWant before now file = now ≡ before ++ reply_of (file.0) (file.1) (Err Memory) ∷ []
+-- a read for which memory ran out
+abbrev pub LogsShortage : List Reply → List Reply → Asked → Type 0
+LogsShortage before now file = now ≡ before ++ reply_of (file.0) (file.1) (Err Memory) ∷ []
 
--- reads for which memory was wanting, or after which it was: the new entries of the log asked for a front of the files
-abbrev pub LogsFront : List Reply → List Reply → List Asked → Type 0
-LogsFront before now files = (new : List Reply) × ((now ≡ before ++ new) × (map asked_in new ≡ take (length new) files))
+-- reads for which memory ran out, or after which it was: the new entries of the log asked for a prefix of the files
+abbrev pub LogsPrefix : List Reply → List Reply → List Asked → Type 0
+LogsPrefix before now files = (new : List Reply) × ((now ≡ before ++ new) × (map asked_in new ≡ take (length new) files))

@@ -4,8 +4,8 @@ ghost use Rattle.std.specs.Prelude.{◌≡◌, ◌≤◌, map, true, IfOk, OnErr
 ghost use Rattle.spec_tool.specs.Reads.{fits};
 ghost use Rattle.bm_io.specs.Counts.{RoseBy};
 ghost use Rattle.tool_shell.specs.Asked.{asked};
-ghost use Rattle.tool_shell.specs.Files.{read_of, reads_of, ReadsOne, AsksFront, AsksOne, ReadsAll, CountsAll, RoseIfFailed};
-ghost use Rattle.tool_shell.specs.Logs.{Logs, LogsOne, LogsWant, LogsFront};
+ghost use Rattle.tool_shell.specs.Files.{read_of, reads_of, ReadsOne, AsksPrefix, AsksOne, ReadsAll, CountsAll, RoseIfFailed};
+ghost use Rattle.tool_shell.specs.Logs.{Logs, LogsOne, LogsShortage, LogsPrefix};
 
 use bm_io::{Files, ReadError};
 use spec_data::{Bytes, OutOfMemory, Seq};
@@ -32,7 +32,7 @@ fn read_one<F: Files>(
     ensures memory { OnErr result (AsksOne (F.told files.old) (F.told files.new) name.now) }
     ensures logged { IfOk result (λ text. LogsOne (F.log files.old) (F.log files.new) (F.taken files.old) (F.taken files.new)
         (name.now, limit) (read_of text)) }
-    ensures wanted { OnErr result (LogsWant (F.log files.old) (F.log files.new) (name.now, limit)) }
+    ensures short { OnErr result (LogsShortage (F.log files.old) (F.log files.new) (name.now, limit)) }
     ensures later { F.faults files.old ≤ F.faults files.new }
     ensures rose { result ≡ Ok None → RoseBy 1 (F.faults files.old) (F.faults files.new) }
 {
@@ -53,10 +53,10 @@ pub(crate) fn read_all<F: Files>(
     ensures reads { IfOk result (λ r. ReadsAll (F.told files.old) (F.told files.new) (map asked list.now) (reads_of r)) }
     ensures logged { IfOk result (λ r. Logs (F.log files.old) (F.log files.new) (F.taken files.old) (F.taken files.new)
         (map asked list.now) (reads_of r)) }
-    ensures wanted { OnErr result (LogsFront (F.log files.old) (F.log files.new) (map asked list.now)) }
+    ensures short { OnErr result (LogsPrefix (F.log files.old) (F.log files.new) (map asked list.now)) }
     ensures count { IfOk result (λ r. CountsAll r (map asked list.now)) }
     ensures rose { IfOk result (RoseIfFailed (F.faults files.old) (F.faults files.new)) }
-    ensures memory { OnErr result (AsksFront (F.told files.old) (F.told files.new) (map asked list.now)) }
+    ensures memory { OnErr result (AsksPrefix (F.told files.old) (F.told files.new) (map asked list.now)) }
 {
     let mut texts = Seq::new(alloc);
     for (name, limit) in list {

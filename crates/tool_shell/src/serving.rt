@@ -5,8 +5,8 @@ ghost use Rattle.spec_tool.specs.Reads.{texts_read};
 ghost use Rattle.spec_tool.specs.Replies.{printed};
 ghost use Rattle.tool_shell.specs.Answered.{AnswersByOrGivesUp, Answered, IfCall};
 ghost use Rattle.tool_shell.specs.Around.{around};
-ghost use Rattle.tool_shell.specs.Files.{reads_of, AsksFront, CountsAll};
-ghost use Rattle.tool_shell.specs.Logs.{LogsFront};
+ghost use Rattle.tool_shell.specs.Files.{reads_of, AsksPrefix, CountsAll};
+ghost use Rattle.tool_shell.specs.Logs.{LogsPrefix};
 ghost use Rattle.tool_shell.specs.Replied.{standing, Replied};
 
 use crate::call::Call;
@@ -49,8 +49,8 @@ fn reply<C: Call, H: Hash32 + Drop, F: Files>(
     ensures reply { IfOk result (λ reply. Replied (λ reads. C.answers (H.digest_of hash) call.now (texts_read reads)) (C.asks call.now)
         (standing (F.told files.old) (F.log files.old) (F.taken files.old) (F.faults files.old))
         (standing (F.told files.new) (F.log files.new) (F.taken files.new) (F.faults files.new)) (printed reply)) }
-    ensures memory { OnErr result (AsksFront (F.told files.old) (F.told files.new) (C.asks call.now)) }
-    ensures wanted { OnErr result (LogsFront (F.log files.old) (F.log files.new) (C.asks call.now)) }
+    ensures memory { OnErr result (AsksPrefix (F.told files.old) (F.told files.new) (C.asks call.now)) }
+    ensures short { OnErr result (LogsPrefix (F.log files.old) (F.log files.new) (C.asks call.now)) }
 {
     let list = call.files(alloc)?;
     let reading = read_all(alloc, files, list.as_slice())?;
@@ -77,7 +77,7 @@ fn serve_call<C: Call, H: Hash32 + Drop, F: Files, S: Sink>(
 }
 
 /// Does what words were read as, and answers its status: 2 where they are no command, 3 where a file can't be read, 4 where the text
-/// can't be written, 5 for want of memory. Nothing is read, and no memory asked, of words that are no command.
+/// can't be written, 5 as memory ran out. Nothing is read, and no memory asked, of words that are no command.
 pub fn serve<C: Call + Drop, H: Hash32 + Drop, F: Files, S: Sink>(
     alloc: Global,
     hash: H,

@@ -19,14 +19,14 @@ use Rattle.tool_shows.specs.Live.{number_and_value}
 -- ---- entries
 
 -- one entry more
-pub next_entry : (front : List Entry) (n : ℕ) (rs : List Record) (ss : List (List Step)) (r : Record) (s : List Step) (all : List Entry)
-    → n < length rs → n < length ss → front ++ entries_by (drop n rs) (drop n ss) ≡ all
-    → (front ++ entry_by (get_or rs n r) (get_or ss n s) ∷ []) ++ entries_by (drop (n + 1) rs) (drop (n + 1) ss) ≡ all
-next_entry front n rs ss r s all less few h =
-    append_assoc front (entry_by (get_or rs n r) (get_or ss n s) ∷ []) (entries_by (drop (n + 1) rs) (drop (n + 1) ss))
-    ∙ ap (λ m. front ++ entry_by (get_or rs n r) (get_or ss n s) ∷ entries_by (drop m rs) (drop m ss)) (add-one n)
-    ∙ ap (λ xs. front ++ entries_by xs (get_or ss n s ∷ drop (suc n) ss)) (sym (drop-cons rs n r less))
-    ∙ ap (λ xs. front ++ entries_by (drop n rs) xs) (sym (drop-cons ss n s few))
+pub next_entry : (prefix : List Entry) (n : ℕ) (rs : List Record) (ss : List (List Step)) (r : Record) (s : List Step) (all : List Entry)
+    → n < length rs → n < length ss → prefix ++ entries_by (drop n rs) (drop n ss) ≡ all
+    → (prefix ++ entry_by (get_or rs n r) (get_or ss n s) ∷ []) ++ entries_by (drop (n + 1) rs) (drop (n + 1) ss) ≡ all
+next_entry prefix n rs ss r s all less few h =
+    append_assoc prefix (entry_by (get_or rs n r) (get_or ss n s) ∷ []) (entries_by (drop (n + 1) rs) (drop (n + 1) ss))
+    ∙ ap (λ m. prefix ++ entry_by (get_or rs n r) (get_or ss n s) ∷ entries_by (drop m rs) (drop m ss)) (add-one n)
+    ∙ ap (λ xs. prefix ++ entries_by xs (get_or ss n s ∷ drop (suc n) ss)) (sym (drop-cons rs n r less))
+    ∙ ap (λ xs. prefix ++ entries_by (drop n rs) xs) (sym (drop-cons ss n s few))
     ∙ h
 
 -- an entry for each turn
@@ -43,7 +43,8 @@ shown_live false n e v live rest same h = h
 
 live_is : (n : ℕ) (os : List Output) → map number_and_value (ledger.live_from n os) ≡ shown.live_from n os
 live_is n [] = refl
-live_is n (o ∷ os) = shown_live o.live n (o.outpoint, (n, ledger.tx_out o)) o.value (ledger.live_from (n + 1) os) (shown.live_from (n + 1) os) refl (live_is (n + 1) os)
+live_is n (o ∷ os) =
+    shown_live o.live n (o.outpoint, (n, ledger.tx_out o)) o.value (ledger.live_from (n + 1) os) (shown.live_from (n + 1) os) refl (live_is (n + 1) os)
 
 -- the live outputs of a world's ledger are those that are shown
 pub live_of_chain : (w : World) → map number_and_value (chain_of w).live ≡ live_outputs w
@@ -71,19 +72,19 @@ one_live zero (x ∷ xs) p e = ap (λ (q : ℕ × TxOut). (q.0, (q.1).value) ∷
 one_live (suc n) (x ∷ xs) p e = one_live n xs p e
 
 -- one more
-pub next_live : (front : List (ℕ × ℕ)) (xs : List Live) (k n : ℕ) (p : ℕ × TxOut) (all : List (ℕ × ℕ)) → k ≡ length front → n ≡ length front + 1
-    → Some p ≡ option_map (λ (e : Live). e.1) (slice_get xs k) → front ++ map number_and_value (drop (length front) xs) ≡ all
-    → (front ++ (p.0, (p.1).value) ∷ []) ++ map number_and_value (drop n xs) ≡ all
-next_live front xs k n p all here next e h =
-    append_assoc front ((p.0, (p.1).value) ∷ []) (map number_and_value (drop n xs))
-    ∙ ap (λ m. front ++ (p.0, (p.1).value) ∷ map number_and_value (drop m xs)) (next ∙ add-one (length front))
-    ∙ ap (λ ls. front ++ ls) (sym (one_live (length front) xs p (ap (λ m. option_map (λ (e : Live). e.1) (slice_get xs m)) (sym here) ∙ sym e)))
+pub next_live : (prefix : List (ℕ × ℕ)) (xs : List Live) (k n : ℕ) (p : ℕ × TxOut) (all : List (ℕ × ℕ)) → k ≡ length prefix → n ≡ length prefix + 1
+    → Some p ≡ option_map (λ (e : Live). e.1) (slice_get xs k) → prefix ++ map number_and_value (drop (length prefix) xs) ≡ all
+    → (prefix ++ (p.0, (p.1).value) ∷ []) ++ map number_and_value (drop n xs) ≡ all
+next_live prefix xs k n p all here next e h =
+    append_assoc prefix ((p.0, (p.1).value) ∷ []) (map number_and_value (drop n xs))
+    ∙ ap (λ m. prefix ++ (p.0, (p.1).value) ∷ map number_and_value (drop m xs)) (next ∙ add-one (length prefix))
+    ∙ ap (λ ls. prefix ++ ls) (sym (one_live (length prefix) xs p (ap (λ m. option_map (λ (e : Live). e.1) (slice_get xs m)) (sym here) ∙ sym e)))
     ∙ h
 
 -- no more
-pub last_live : (front : List (ℕ × ℕ)) (xs : List Live) (k : ℕ) (all : List (ℕ × ℕ)) → k ≡ length front
-    → None ≡ option_map (λ (e : Live). e.1) (slice_get xs k) → front ++ map number_and_value (drop (length front) xs) ≡ all → front ≡ all
-last_live front xs k all here e h =
-    sym (append-nil front)
-    ∙ ap (λ ls. front ++ ls) (sym (no_more (length front) xs (ap (λ m. option_map (λ (e : Live). e.1) (slice_get xs m)) (sym here) ∙ sym e)))
+pub last_live : (prefix : List (ℕ × ℕ)) (xs : List Live) (k : ℕ) (all : List (ℕ × ℕ)) → k ≡ length prefix
+    → None ≡ option_map (λ (e : Live). e.1) (slice_get xs k) → prefix ++ map number_and_value (drop (length prefix) xs) ≡ all → prefix ≡ all
+last_live prefix xs k all here e h =
+    sym (append-nil prefix)
+    ∙ ap (λ ls. prefix ++ ls) (sym (no_more (length prefix) xs (ap (λ m. option_map (λ (e : Live). e.1) (slice_get xs m)) (sym here) ∙ sym e)))
     ∙ h

@@ -1,4 +1,4 @@
-//! What is shown of a run: its entries, the live outputs, its end, and the line of a run that was halted.
+//! Puts together what `play` prints of a run: its entries, its end with live outputs and offers, or the line of a halt.
 #![tactic(auto)]
 
 mod ends;

@@ -1,5 +1,5 @@
-//! The name of one of a contract's transactions, `init` or its path: read of a word, and written as one. Of a word that names none no
-//! memory is asked.
+//! The name of one of a contract's transactions, `init` or a path such as `r.0`, read from a word and written. Words
+//! that name none take no memory, so wrong words are answered whatever memory there is.
 #![tactic(auto)]
 
 mod path_word;

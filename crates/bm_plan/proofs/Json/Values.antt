@@ -83,13 +83,13 @@ pub one_told : (values new : List Value) (v : Value) (paths : List (List PathSte
     → new ≡ values ++ v ∷ [] → seen (view v) ≡ plain (weigh.transaction_value ((weigh.named_path p).0) (p.1) w)
     → map seen (map view values) ++ map plain (weigh.transaction_values (map weigh.named_path (drop i paths)) rest) ≡ all
     → map seen (map view new) ++ map plain (weigh.transaction_values (map weigh.named_path (drop (i + 1) paths)) more) ≡ all
-one_told values new v paths i p w rest more all low is front grown h told =
+one_told values new v paths i p w rest more all low is prefix grown h told =
     let seens = λ (vs : List Value). map seen (map view vs) in
     let left = λ (ps : List (List PathStep × Prepared)) (ws : List Weighed). map plain (weigh.transaction_values (map weigh.named_path ps) ws) in
     let later = left (drop (suc i) paths) more in
     let cut : drop i paths ≡ get_or paths i p ∷ drop (suc i) paths = drop-cons paths i p low in
     let same : left (drop i paths) rest ≡ left (p ∷ drop (suc i) paths) (w ∷ more) =
-    (λ j. left (cut j) (front j)) ∙ ap (λ q. left (q ∷ drop (suc i) paths) (w ∷ more)) (sym is) in
+    (λ j. left (cut j) (prefix j)) ∙ ap (λ q. left (q ∷ drop (suc i) paths) (w ∷ more)) (sym is) in
     let e : seens new ≡ seens values ++ seen (view v) ∷ [] = ap seens grown ∙ seen_more values v in
     rw add-one (
     ap (λ xs. xs ++ later) e

@@ -25,7 +25,7 @@ use Rattle.spec_tool.specs.declared.which.Which.TheVariants as names
 -- a transaction by its name, what it does, and for each of its inputs the labels whose keys sign it
 pub record Listed : Type 0 where
   pub which : Which
-  pub draft : Unsigned
+  pub pending : Unsigned
   pub signers : List (List Label)
 
 -- ---- who signs
@@ -51,10 +51,10 @@ path_signers instance path = option_map_or (branch_signers instance.contract ins
 
 abbrev pub initial_listed : (List ℕ → List ℕ) → Keys → Instance → Listed
 initial_listed hash keys instance =
-    record { which = names.Init; draft = initial_unsigned hash keys instance; signers = initial_signers instance.advert }
+    record { which = names.Init; pending = initial_unsigned hash keys instance; signers = initial_signers instance.advert }
 
 abbrev pub path_listed : Instance → List PathStep → Unsigned → Listed
-path_listed instance path draft = record { which = names.At path; draft = draft; signers = path_signers instance path }
+path_listed instance path pending = record { which = names.At path; pending = pending; signers = path_signers instance path }
 
 -- all of them: the initial one, and then those of the paths in the order of the text
 abbrev pub listed : (List ℕ → List ℕ) → Keys → Instance → List Listed

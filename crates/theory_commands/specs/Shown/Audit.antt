@@ -10,7 +10,7 @@ use Rattle.spec_tool.specs.AuditText.{report_text, uncompiled_text, audit_refuse
 use Rattle.spec_tool.specs.Commands.{Printed, prints}
 use Rattle.spec_tool.specs.Reads.{Text}
 use Rattle.theory_audit.specs.Audited.{IsAudit, HaltsAs}
-use Rattle.theory_lines.specs.Audit.{audit_of, shown_audit}
+use Rattle.theory_plan_text.specs.Audit.{audit_of, shown_audit}
 use Rattle.theory_commands.specs.Files.{IfWhole}
 
 -- nothing collides: what the file's lines are, which transactions are absent and which signatures are missing is written

@@ -1,7 +1,7 @@
 -- What `auto` shows of a run, its contract and a strategy.
 use Rattle.std.specs.Prelude.{◌≡◌, List, ◌⊎◌}
 use Rattle.spec_run.specs.declared.event.Event.{Event}
-use Rattle.spec_run.specs.Draft.{Halt}
+use Rattle.spec_run.specs.Pending.{Halt}
 use Rattle.spec_run.specs.Setup.{Setup}
 use Rattle.spec_run.specs.Translation.{last_world}
 use Rattle.spec_text.specs.RunText.{run_text}

@@ -5,16 +5,16 @@ use Rattle.spec_run.specs.Setup.{Setup}
 use Rattle.spec_run.specs.Statements.{IsRun, Simulates}
 use Rattle.spec_run.specs.Translation.{translated, last_configuration, last_world}
 use Rattle.spec_run.specs.declared.event.Event.{Event}
-use Rattle.spec_text.specs.Generator.{made_contract, made_run}
+use Rattle.spec_text.specs.Generator.{generated_contract, generated_run}
 use Rattle.spec_text.specs.PlanText.{counts_text, step_count}
 use Rattle.spec_tool.specs.Commands.{Printed, prints, most_size, setup_of}
-use Rattle.theory_generator.specs.Made as contracts
-use Rattle.theory_generator.specs.MadeRuns as runs
+use Rattle.theory_generator.specs.Generated as contracts
+use Rattle.theory_generator.specs.GeneratedRuns as runs
 use Rattle.theory_commands.specs.Files.{IfWhole}
 
--- the made run with the made contract
-abbrev pub made_setup : (List ℕ → List ℕ) → ℕ → ℕ → Setup
-made_setup hash number size = setup_of hash (made_run number size) (made_contract number size ∷ [])
+-- the generated run with the generated contract
+abbrev pub generated_setup : (List ℕ → List ℕ) → ℕ → ℕ → Setup
+generated_setup hash number size = setup_of hash (generated_run number size) (generated_contract number size ∷ [])
 
 -- the counts are those of the events, steps, deposits, contracts and live value of this run
 abbrev pub Counts : Setup → List Event → Printed → Type 0
@@ -26,11 +26,11 @@ pub record ShowsMade (hash : List ℕ → List ℕ) (number size : ℕ) (printed
   pub contract : contracts.IsTaken number size
   pub run : runs.IsRunTaken number size
   -- the theorems on runs speak of it: its steps are a legal run of the calculus
-  pub is_run : opening_collision (made_setup hash number size) ≡ None → IsRun (made_setup hash number size) (made_run number size).events
-  pub simulates : opening_collision (made_setup hash number size) ≡ None
-      → Simulates (made_setup hash number size) (made_run number size).events
-  pub counts : IfWhole (made_setup hash number size) (made_run number size).events printed
-      (Counts (made_setup hash number size) (made_run number size).events printed)
+  pub is_run : opening_collision (generated_setup hash number size) ≡ None → IsRun (generated_setup hash number size) (generated_run number size).events
+  pub simulates : opening_collision (generated_setup hash number size) ≡ None
+      → Simulates (generated_setup hash number size) (generated_run number size).events
+  pub counts : IfWhole (generated_setup hash number size) (generated_run number size).events printed
+      (Counts (generated_setup hash number size) (generated_run number size).events printed)
 
 -- so it is for each size that the command takes
 abbrev pub ShowsMake : (List ℕ → List ℕ) → ℕ → ℕ → Printed → Type 0

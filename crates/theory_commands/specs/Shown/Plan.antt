@@ -22,7 +22,7 @@ use Rattle.theory_script.specs.Money.{KeepsMoney}
 use Rattle.theory_weights.specs.Bounds.{IsWithin, WeighsRightly}
 use Rattle.theory_weights.specs.Runs.{way_to, FiredInitial, FiredAll, TotalsAreSums}
 use Rattle.theory_weights.specs.Sizes.{IsSized}
-use Rattle.theory_lines.specs.Plan.{plan_of, shown_plan}
+use Rattle.theory_plan_text.specs.Plan.{plan_of, shown_plan}
 use Rattle.theory_commands.specs.Files.{IfWhole}
 
 -- ---- the transactions of a compiled contract

@@ -27,11 +27,11 @@ use Rattle.theory_commands.specs.PsbtFiles.{IsPsbtFile}
 -- the key of the label is needed for this input of the transaction, and its pair with the input's digest is in the book
 pub record IsSigned (s : Setup) (w : World) (l : Listed) (input : ℕ) (label : Label) (digest : List ℕ) : Type 0 where
   pub spent : Spent
-  pub spends : slice_get l.draft.spends input ≡ Some spent
+  pub spends : slice_get l.pending.spends input ≡ Some spent
   pub labels : List Label
   pub signers : slice_get l.signers input ≡ Some labels
   pub signer : Contains labels label
-  pub digest_is : digest ≡ digest_of_spent s.hash (tx_of l.draft) spent
+  pub digest_is : digest ≡ digest_of_spent s.hash (tx_of l.pending) spent
   pub signed : has_signed w.book (key_of s.hash label) digest ≡ true
 
 -- the label's key with its signature of the digest
@@ -77,9 +77,9 @@ pub record PrintsPsbt (s : Setup) (w : World) (l : Listed) (printed : Printed) :
   pub small : length printed.text ≤ most_psbt_bytes
   pub psbt : Psbt
   pub holds : IsPsbtFile printed.text psbt
-  pub tx : psbt.tx ≡ tx_of l.draft
-  pub each_input : length psbt.inputs ≡ length l.draft.spends
-  pub inputs : (input : ℕ) (spent : Spent) (said : PsbtInput) → slice_get l.draft.spends input ≡ Some spent
+  pub tx : psbt.tx ≡ tx_of l.pending
+  pub each_input : length psbt.inputs ≡ length l.pending.spends
+  pub inputs : (input : ℕ) (spent : Spent) (said : PsbtInput) → slice_get l.pending.spends input ≡ Some spent
       → slice_get psbt.inputs input ≡ Some said → SpendsOutput s spent said
   pub signatures : AreSigned s w l psbt
 

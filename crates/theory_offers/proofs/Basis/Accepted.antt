@@ -19,7 +19,7 @@ use Rattle.spec_compiler.specs.Endorsements.{is_endorsed}
 use Rattle.spec_run.specs.Setup.{Setup}
 use Rattle.spec_run.specs.World.{ContractPosition, Output, World, live_position_at, live_position}
 use Rattle.spec_run.specs.Compiled.{compiled_instance}
-use Rattle.spec_run.specs.Draft.{settled}
+use Rattle.spec_run.specs.Pending.{applied}
 use Rattle.spec_run.specs.Ledger.{spend_from, made_from, core_holds, branch_holds, position_path, position_branch, initial_of, first_position, kind_by, kind_of, new_position, accepted}
 use Rattle.spec_run.specs.Steps.{is_bound_live}
 use Rattle.spec_run.specs.Values.{total_live}
@@ -36,7 +36,8 @@ use Rattle.theory_run.specs.KeptBook.{KeptBook}
 use Rattle.theory_offers.proofs.Basis.Offered.{KeptOffers}
 
 -- what is spent was made
-spent_there : (s : Setup) (w : World) (tx : Tx) (ns : List ℕ) (is : List TxIn) (m : ℕ) → AllSpent s w tx ns is → has_number m ns ≡ true → (o : Output) × (slice_get w.outputs m ≡ Some o)
+spent_there : (s : Setup) (w : World) (tx : Tx) (ns : List ℕ) (is : List TxIn) (m : ℕ) → AllSpent s w tx ns is → has_number m ns ≡ true
+    → (o : Output) × (slice_get w.outputs m ≡ Some o)
 spent_there s w tx [] [] m h k = cc
 spent_there s w tx [] (i ∷ is) m h k = absurd h
 spent_there s w tx (n ∷ ns) [] m h k = absurd h
@@ -62,7 +63,7 @@ branch_contract k path (Some b) m h e = core_contract k path (core b) m h e
 
 module _ (s : Setup) (g g' : Configuration) (w : World) (kept : KeptBook s g w) (more : KeptOffers s g w) (constant : Constant s g') (tx : Tx) (spent : List ℕ) (is : IsAccepted s w tx spent) where
   abbrev pub next : World
-  next = settled w (accepted s w tx spent)
+  next = applied w (accepted s w tx spent)
 
   acc : Accepting s w tx spent
   acc = accepting s w tx spent is
@@ -75,11 +76,14 @@ module _ (s : Setup) (g g' : Configuration) (w : World) (kept : KeptBook s g w) 
   where_held : (n : ℕ) (h : ContractPosition) → live_position_at next n ≡ Some h → Where n h
   where_held n h e = by_output (slice_get next.outputs n) refl e
     where
-      by_number : (p : Output) → slice_get w.outputs n ≡ Some p → (t : Bool) → has_number n spent ≡ t → (o : Output) → (if t then record p { live = false } else p) ≡ o → live_position (Some o) ≡ Some h → Where n h
+      by_number : (p : Output) → slice_get w.outputs n ≡ Some p → (t : Bool) → has_number n spent ≡ t → (o : Output)
+          → (if t then record p { live = false } else p) ≡ o → live_position (Some o) ≡ Some h → Where n h
       by_number p f true u o q x = let d : false ≡ o.live = ap (λ (y : Output). y.live) q in let y : live_position (Some o) ≡ None = rw (sym d) refl in cc
       by_number p f false u o q x = stays_held (ap live_position f ∙ ap (λ y. live_position (Some y)) q ∙ x) u
 
-      by_old : (r : Option Output) → slice_get w.outputs n ≡ r → (o : Output) → option_map (λ (p : Output). if has_number (n + 0) spent then record p { live = false } else p) r ≡ Some o → live_position (Some o) ≡ Some h → Where n h
+      by_old : (r : Option Output) → slice_get w.outputs n ≡ r → (o : Output)
+          → option_map (λ (p : Output). if has_number (n + 0) spent then record p { live = false } else p) r ≡ Some o
+          → live_position (Some o) ≡ Some h → Where n h
       by_old None f o q x = cc
       by_old (Some p) f o q x =
           let z : n + 0 ≡ n = omega arith in
@@ -104,7 +108,8 @@ module _ (s : Setup) (g g' : Configuration) (w : World) (kept : KeptBook s g w) 
     where
       by_output : (r : Option Output) → slice_get w.outputs n ≡ r → is_some r ≡ true → is_some (slice_get next.outputs n) ≡ true
       by_output None e q = cc
-      by_output (Some o) e q = ap is_some ((lasts_spent spent w.outputs (made_from (new_position s (kind_of s w tx spent)) (txid s.hash tx) 0 tx.outputs)).last n o e).1
+      by_output (Some o) e q =
+          ap is_some ((lasts_spent spent w.outputs (made_from (new_position s (kind_of s w tx spent)) (txid s.hash tx) 0 tx.outputs)).last n o e).1
 
   is_below : (n : ℕ) → is_some (slice_get w.outputs n) ≡ true → n < length w.outputs
   is_below n h = by_output (slice_get w.outputs n) refl h
@@ -128,11 +133,16 @@ module _ (s : Setup) (g g' : Configuration) (w : World) (kept : KeptBook s g w) 
   first_number_held (n ∷ ns) h e = (n, e)
 
   -- the further authorisations are of the contract that begins, or of outputs that are spent; a contract that begins is endorsed, and its deposits are spent
-  pub accepted_offers : ((k : ℕ) (st : Instance) → compiled_instance s w k ≡ Some st → compiled_instance s next k ≡ Some st) → ((k : ℕ) (st : Instance) → compiled_instance s next k ≡ Some st → compiled_instance s w k ≡ Some st)
-      → ((k : ℕ) (x : List ℕ) → is_init_authorised g'.init_authorised k x ≡ true → (is_init_authorised g.init_authorised k x ≡ true) ⊎ (initial_of s w tx ≡ Some k))
-      → ((n i : ℕ) (a : List ℕ) → has_branch_authorised g'.branch_authorised n i a ≡ true → (has_branch_authorised g.branch_authorised n i a ≡ true) ⊎ (has_number n spent ≡ true))
-      → ((k : ℕ) → initial_of s w tx ≡ Some k → (st : Instance) × (compiled_instance s w k ≡ Some st) × (is_endorsed s.hash st w.book ≡ true) × ((d : List ℕ × Holding) → Is_in d (persistent st.advert.pre) → is_bound_live next k d ≡ false))
-      → ((k : ℕ) (st : Instance) (d : List ℕ × Holding) → compiled_instance s w k ≡ Some st → Is_in d (persistent st.advert.pre) → is_bound_live next k d ≡ true → is_bound_live w k d ≡ true)
+  pub accepted_offers : ((k : ℕ) (st : Instance) → compiled_instance s w k ≡ Some st → compiled_instance s next k ≡ Some st)
+      → ((k : ℕ) (st : Instance) → compiled_instance s next k ≡ Some st → compiled_instance s w k ≡ Some st)
+      → ((k : ℕ) (x : List ℕ) → is_init_authorised g'.init_authorised k x ≡ true
+      → (is_init_authorised g.init_authorised k x ≡ true) ⊎ (initial_of s w tx ≡ Some k))
+      → ((n i : ℕ) (a : List ℕ) → has_branch_authorised g'.branch_authorised n i a ≡ true
+      → (has_branch_authorised g.branch_authorised n i a ≡ true) ⊎ (has_number n spent ≡ true))
+      → ((k : ℕ) → initial_of s w tx ≡ Some k → (st : Instance) × (compiled_instance s w k ≡ Some st)
+      × (is_endorsed s.hash st w.book ≡ true) × ((d : List ℕ × Holding) → Is_in d (persistent st.advert.pre) → is_bound_live next k d ≡ false))
+      → ((k : ℕ) (st : Instance) (d : List ℕ × Holding) → compiled_instance s w k ≡ Some st → Is_in d (persistent st.advert.pre)
+      → is_bound_live next k d ≡ true → is_bound_live w k d ≡ true)
       → KeptOffers s g' next
   accepted_offers stays back inits asked starts live = record {
     constant = constant;
@@ -177,7 +187,9 @@ module _ (s : Setup) (g g' : Configuration) (w : World) (kept : KeptBook s g w) 
       one_setting : (k j : ℕ) (st su : Instance) → k ≡ j → compiled_instance s w k ≡ Some st → compiled_instance s w j ≡ Some su → su ≡ st
       one_setting k j st su e a b = let q : Some su ≡ Some st = sym b ∙ ap (compiled_instance s w) (sym e) ∙ a in cc
 
-      by_kind : (st : Instance) (h : ContractPosition) (m : ℕ) → compiled_instance s w h.contract ≡ Some st → (o : Option ℕ) → initial_of s w tx ≡ o → (f : Option ContractPosition) → first_position w spent ≡ f → new_position s (kind_by s tx spent o f) m ≡ Some h → is_endorsed s.hash st w.book ≡ true
+      by_kind : (st : Instance) (h : ContractPosition) (m : ℕ) → compiled_instance s w h.contract ≡ Some st → (o : Option ℕ)
+          → initial_of s w tx ≡ o → (f : Option ContractPosition) → first_position w spent ≡ f → new_position s (kind_by s tx spent o f) m
+          ≡ Some h → is_endorsed s.hash st w.book ≡ true
       by_kind st h m c (Some k) i f e q =
           let r = starts k i in
           let z : record { contract = k; position = [] } ≡ h = cc in

@@ -17,13 +17,13 @@ use Rattle.spec_run.specs.Setup.{Setup, is_honest, people_of}
 use Rattle.spec_run.specs.World.{Output, World, output_at, is_deposit, bindings_at}
 use Rattle.spec_run.specs.Owners.{owner_by, owner_of}
 use Rattle.spec_run.specs.Compiled.{compiled_instance}
-use Rattle.spec_run.specs.Draft.{settled}
+use Rattle.spec_run.specs.Pending.{applied}
 use Rattle.spec_run.specs.Ledger.{Begins, accepted, is_initial, initial_of, kind_of, kind_by, first_position}
 use Rattle.spec_run.specs.Steps.{names_deposit}
 use Rattle.spec_run.specs.Event.{record_of}
 use Rattle.spec_run.specs.HonestDeposits.{is_init, was_done, gives, by_contract, takes_persistent, SpendsWithLeave}
 use Rattle.theory_calculus.proofs.Names.{persistent_deposit}
-use Rattle.theory_world.specs.KeptApart.{NoClash}
+use Rattle.theory_world.specs.KeptApart.{NoCollision}
 use Rattle.theory_world.proofs.Contracts.Mentions.{HasDeposit, has_deposit}
 use Rattle.theory_world.proofs.Ledger.Worth.{IsAccepted}
 use Rattle.theory_world.proofs.Ledger.Accepting.{accepting}
@@ -37,7 +37,8 @@ use Rattle.theory_offers.proofs.Basis.Stepped.{spends_in, is_gone}
 use Rattle.theory_offers.proofs.Basis.Reached.{BeginsEndorsed}
 use Rattle.theory_offers.proofs.Endorsing.{KeptStarts}
 
-module _ (s : Setup) (g : Configuration) (w : World) (kept : KeptBook s g w) (check : Checked s w) (clear : NoClash s.hash w.hashed) (before : List Record) (starts : KeptStarts s before w)
+module _ (s : Setup) (g : Configuration) (w : World) (kept : KeptBook s g w) (check : Checked s w) (clear : NoCollision s.hash w.hashed)
+    (before : List Record) (starts : KeptStarts s before w)
     (e : Event) (tx : Tx) (spent : List ℕ) (is : IsAccepted s w tx spent) where
   module _ (k : ℕ) (i : initial_of s w tx ≡ Some k) where
     abbrev it : IsInitial s w tx k
@@ -63,7 +64,8 @@ module _ (s : Setup) (g : Configuration) (w : World) (kept : KeptBook s g w) (ch
     bound = at_bound s g w kept k st it.compiled has.name has.holding (persistent_deposit st.advert.pre d has.there)
 
     looked : look_up has.name (bindings_at w.advertised k) ≡ Some bound.number
-    looked = subst (λ m. look_up has.name (bindings_at w.advertised m) ≡ Some bound.number) (ap (λ (y : Instance). y.contract) (compiled_is s w k st it.compiled).is) bound.looked
+    looked = subst (λ m. look_up has.name (bindings_at w.advertised m) ≡ Some bound.number)
+        (ap (λ (y : Instance). y.contract) (compiled_is s w k st it.compiled).is) bound.looked
 
     -- it is live before, and gone after
     live : bound.bound.output.live ≡ true
@@ -84,11 +86,12 @@ module _ (s : Setup) (g : Configuration) (w : World) (kept : KeptBook s g w) (ch
         let by : owner_by s o.script ≡ Party someone.0 = ap (owner_by s) bound.bound.script ∙ who ∙ ap Party has.owner in
         ap (owner_of s) bound.bound.there ∙ rw dep by
 
-    gone : is_deposit (output_at (settled w (accepted s w tx spent)) bound.number) ≡ false
-    gone = sym (ap (names_deposit (settled w (accepted s w tx spent))) looked) ∙ is_gone s g w kept tx spent is k st it.compiled d has.there it.is
+    gone : is_deposit (output_at (applied w (accepted s w tx spent)) bound.number) ≡ false
+    gone = sym (ap (names_deposit (applied w (accepted s w tx spent))) looked) ∙ is_gone s g w kept tx spent is k st it.compiled d has.there it.is
 
     -- it went with the party's leave, which isn't a gift's
-    left : SpendsWithLeave s before w (record_of e (accepted s w tx spent)) (settled w (accepted s w tx spent)) → gives someone.0 bound.number e ≡ false → was_done (is_init k someone.0) before ≡ true
+    left : SpendsWithLeave s before w (record_of e (accepted s w tx spent)) (applied w (accepted s w tx spent))
+        → gives someone.0 bound.number e ≡ false → was_done (is_init k someone.0) before ≡ true
     left leave no_gift =
         let h = leave someone.0 bound.number someone.2 owned gone in
         let kind : kind_of s w tx spent ≡ Begins k = ap (λ o. kind_by s tx spent o (first_position w spent)) i in
@@ -96,7 +99,8 @@ module _ (s : Setup) (g : Configuration) (w : World) (kept : KeptBook s g w) (ch
         let takes = is_initial s tx (compiled_instance s w k) && takes_persistent s w k someone.0 bound.number in
         (and_parts takes (was_done (is_init k someone.0) before) (subst (λ x. by_contract s w before someone.0 bound.number tx x ≡ true) kind by)).1
 
-  pub begins_endorsed : SpendsWithLeave s before w (record_of e (accepted s w tx spent)) (settled w (accepted s w tx spent)) → ((a : List ℕ) (n : ℕ) → gives a n e ≡ false) → BeginsEndorsed s w tx
+  pub begins_endorsed : SpendsWithLeave s before w (record_of e (accepted s w tx spent)) (applied w (accepted s w tx spent))
+      → ((a : List ℕ) (n : ℕ) → gives a n e ≡ false) → BeginsEndorsed s w tx
   begins_endorsed leave no_gift k st i c =
       let r = starts.started k (someone k i).0 (someone k i).2 (left k i leave (no_gift (someone k i).0 (bound k i).number)) in
       let one : (let x : Option Instance = Some r.instance in x) ≡ Some st = sym r.compiled ∙ c in

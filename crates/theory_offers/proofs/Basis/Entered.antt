@@ -62,7 +62,8 @@ one_begins k c p x [] h = absurd h
 one_begins k c p x (d ∷ ds) (inl e) = cc
 one_begins k c p x (d ∷ ds) (inr i) = one_begins k c p x ds i
 
-init_kind : (s : Setup) (g : Configuration) (w : World) (tx : Tx) (spent : List ℕ) (kd : Kind) (k : ℕ) (p x : List ℕ) → Is_in (steps.AuthInit k p x) (kind_steps s g w tx spent kd) → kd ≡ Begins k
+init_kind : (s : Setup) (g : Configuration) (w : World) (tx : Tx) (spent : List ℕ) (kd : Kind) (k : ℕ) (p x : List ℕ)
+    → Is_in (steps.AuthInit k p x) (kind_steps s g w tx spent kd) → kd ≡ Begins k
 init_kind s g w tx spent (Begins c) k p x h = elim (in_joined (auth_inits c (unauthorised g c (persistent (pre_at s c)))) (steps.Init c ∷ []) _ h) [
   | inl a ↦ ap Begins (one_begins k c p x (unauthorised g c (persistent (pre_at s c))) a)
   | inr b ↦ elim b [ inl e ↦ cc | inr e ↦ absurd e ]
@@ -123,7 +124,8 @@ taken_output (Takes held n i) = Some n
 taken_output (Begins k) = None
 taken_output Moves = None
 
-asked_kind : (s : Setup) (g : Configuration) (w : World) (tx : Tx) (spent : List ℕ) (kd : Kind) (n i : ℕ) (a : List ℕ) → Is_in (steps.AuthBranch a n i) (kind_steps s g w tx spent kd) → taken_output kd ≡ Some n
+asked_kind : (s : Setup) (g : Configuration) (w : World) (tx : Tx) (spent : List ℕ) (kd : Kind) (n i : ℕ) (a : List ℕ)
+    → Is_in (steps.AuthBranch a n i) (kind_steps s g w tx spent kd) → taken_output kd ≡ Some n
 asked_kind s g w tx spent (Begins c) n i a h = elim (in_joined (auth_inits c (unauthorised g c (persistent (pre_at s c)))) (steps.Init c ∷ []) _ h) [
   | inl x ↦ absurd (no_init_branch n i a c (unauthorised g c (persistent (pre_at s c))) x)
   | inr x ↦ elim x [ inl e ↦ cc | inr e ↦ absurd e ]
@@ -141,7 +143,8 @@ asked_kind s g w tx spent Moves n i a h = elim (in_joined (map (auth_move (move_
   | inr x ↦ elim x [ inl e ↦ cc | inr e ↦ absurd e ]
 ]
 
-taken_first : (s : Setup) (w : World) (tx : Tx) (spent : List ℕ) (n : ℕ) (o : Option ℕ) (f : Option ContractPosition) → first_position w spent ≡ f → taken_output (kind_by s tx spent o f) ≡ Some n → has_number n spent ≡ true
+taken_first : (s : Setup) (w : World) (tx : Tx) (spent : List ℕ) (n : ℕ) (o : Option ℕ) (f : Option ContractPosition)
+    → first_position w spent ≡ f → taken_output (kind_by s tx spent o f) ≡ Some n → has_number n spent ≡ true
 taken_first s w tx spent n (Some c) f e h = cc
 taken_first s w tx [] n None (Some held) e h = cc
 taken_first s w tx (m ∷ ms) n None (Some held) e h = let q : m ≡ n = cc in or_left _ _ (eq-eqb m n q)
@@ -150,10 +153,12 @@ taken_first s w tx spent n None None e h = cc
 -- ---- all of it
 
 -- the contract that begins must be endorsed
-pub entered_offers : (s : Setup) (g : Configuration) (w : World) (kept : KeptBook s g w) (more : KeptOffers s g w) (tx : Tx) (spent : List ℕ) (is : IsAccepted s w tx spent)
+pub entered_offers : (s : Setup) (g : Configuration) (w : World) (kept : KeptBook s g w) (more : KeptOffers s g w) (tx : Tx)
+    (spent : List ℕ) (is : IsAccepted s w tx spent)
     → (let g' = calculus.after_steps g (reveals s w (next s g g w kept more more.constant tx spent is) ++ kind_steps s g w tx spent (kind_of s w tx spent)) in
     let later = next s g g w kept more more.constant tx spent is in
-    ((k : ℕ) (st : Instance) → compiled_instance s w k ≡ Some st → compiled_instance s later k ≡ Some st) → ((k : ℕ) (st : Instance) → compiled_instance s later k ≡ Some st → compiled_instance s w k ≡ Some st)
+    ((k : ℕ) (st : Instance) → compiled_instance s w k ≡ Some st → compiled_instance s later k ≡ Some st)
+    → ((k : ℕ) (st : Instance) → compiled_instance s later k ≡ Some st → compiled_instance s w k ≡ Some st)
     → ((k : ℕ) (st : Instance) → initial_of s w tx ≡ Some k → compiled_instance s w k ≡ Some st → is_endorsed s.hash st w.book ≡ true)
     → KeptOffers s g' later)
 entered_offers s g w kept more tx spent is stays back endorsed =

@@ -49,19 +49,25 @@ pub record KeptOffers (s : Setup) (g : Configuration) (w : World) : Type 0 where
   -- only to an advertised contract is committed
   pub told : (k : ℕ) (a : List ℕ) → has_promised w k a ≡ true → is_advertised w k ≡ true
   -- a commitment has none but its party's secrets
-  pub named : (p : Promise) (name : List ℕ) → Is_in p w.promises → is_some (look_up name p.digests) ≡ true → is_among name (secrets_at s p.contract p.party) ≡ true
+  pub named : (p : Promise) (name : List ℕ) → Is_in p w.promises → is_some (look_up name p.digests) ≡ true
+      → is_among name (secrets_at s p.contract p.party) ≡ true
   -- only a compiled contract is let take deposits, and a branch is authorised of an output that was made
   pub compiled_first : (k : ℕ) (x : List ℕ) → is_init_authorised g.init_authorised k x ≡ true → is_some (compiled_instance s w k) ≡ true
   pub born : (n i : ℕ) (a : List ℕ) → has_branch_authorised g.branch_authorised n i a ≡ true → is_some (output_at w n) ≡ true
   -- an active contract is endorsed
-  pub endorsed : (n : ℕ) (h : ContractPosition) (st : Instance) → live_position_at w n ≡ Some h → compiled_instance s w h.contract ≡ Some st → is_endorsed s.hash st w.book ≡ true
+  pub endorsed : (n : ℕ) (h : ContractPosition) (st : Instance) → live_position_at w n ≡ Some h → compiled_instance s w h.contract ≡ Some st
+      → is_endorsed s.hash st w.book ≡ true
   -- a live deposit that a contract may take has its pair in the book
-  pub inits : (k : ℕ) (st : Instance) (d : List ℕ × Holding) → compiled_instance s w k ≡ Some st → Is_in d (persistent st.advert.pre) → is_init_authorised g.init_authorised k (d.0) ≡ true → is_bound_live w k d ≡ true
+  pub inits : (k : ℕ) (st : Instance) (d : List ℕ × Holding) → compiled_instance s w k ≡ Some st → Is_in d (persistent st.advert.pre)
+      → is_init_authorised g.init_authorised k (d.0) ≡ true → is_bound_live w k d ≡ true
       → has_signed w.book (deposit_key s.hash (d.1).owner) (digest_of_spent s.hash (tx_of (initial_unsigned s.hash st)) (deposit s.hash st (d.0) (d.1))) ≡ true
   -- a branch of an active contract that a party has authorised, and that asks it, has its pair in the book
-  pub asked : (n i : ℕ) (a : List ℕ) (h : ContractPosition) (st : Instance) (here : Standing) (choice : Contract) (b : term.Guarded) → live_position_at w n ≡ Some h → compiled_instance s w h.contract ≡ Some st → position_at s.hash st h.position ≡ Some (here, choice) → slice_get (branches choice) i ≡ Some b
+  pub asked : (n i : ℕ) (a : List ℕ) (h : ContractPosition) (st : Instance) (here : Standing) (choice : Contract) (b : term.Guarded)
+      → live_position_at w n ≡ Some h → compiled_instance s w h.contract ≡ Some st → position_at s.hash st h.position ≡ Some (here, choice)
+      → slice_get (branches choice) i ≡ Some b
       → is_asked b a ≡ true → has_branch_authorised g.branch_authorised n i a ≡ true
-      → has_signed w.book (key_of s.hash (branch_label h.contract (h.position ++ To i ∷ []) a)) (digest_of_spent s.hash (tx_of (branch_unsigned s.hash st here i b)) here.output) ≡ true
+      → has_signed w.book (key_of s.hash (branch_label h.contract (h.position ++ To i ∷ []) a))
+      (digest_of_spent s.hash (tx_of (branch_unsigned s.hash st here i b)) here.output) ≡ true
 
 -- the number of a look-up, 0 without one
 abbrev pub or_zero : Option ℕ → ℕ
@@ -115,7 +121,8 @@ module _ (s : Setup) (size : IsHash s.hash) (g : Configuration) (w : World) (kep
       pub live : is_bound_live w k d ≡ true
       pub signed : has_signed w.book (deposit_key s.hash (d.1).owner) (digest_of_spent s.hash tx (deposit s.hash st (d.0) (d.1))) ≡ true
 
-    ready : (name : List ℕ) (h : Holding) → IsOpen (name, h) → Ready s w tx (deposit s.hash st name h) (deposit_witness s h.owner (digest_of_spent s.hash tx (deposit s.hash st name h))) (number_of w k name)
+    ready : (name : List ℕ) (h : Holding) → IsOpen (name, h)
+        → Ready s w tx (deposit s.hash st name h) (deposit_witness s h.owner (digest_of_spent s.hash tx (deposit s.hash st name h))) (number_of w k name)
     ready name h o =
         let a = at_bound s g w kept k st compiled name h o.known in
         let e = number_is name h a in
@@ -131,19 +138,23 @@ module _ (s : Setup) (size : IsHash s.hash) (g : Configuration) (w : World) (kep
           pays = a.bound.script;
           items = signature_of (deposit_key s.hash h.owner) dg ∷ [];
           is = refl;
-          short = and_from _ _ (signature_short (deposit_key s.hash h.owner) dg (key_size s.hash size h.owner) (digest_size s.hash size tx (deposit s.hash st name h))) refl;
+          short = and_from _ _ (signature_short (deposit_key s.hash h.owner) dg (key_size s.hash size h.owner)
+              (digest_size s.hash size tx (deposit s.hash st name h))) refl;
           runs = opens_deposit s.hash size w.book h.owner dg (digest_size s.hash size tx (deposit s.hash st name h)) o.signed;
         }
 
     -- all these deposits are ready
     pub ready_all : {A : Type 0} (f : A → List ℕ × Holding) (xs : List A) → ((a : A) → Is_in a xs → IsOpen (f a))
-        → AllReady s w tx (map (λ a. deposit s.hash st ((f a).0) ((f a).1)) xs) (deposit_witnesses s (map (λ a. ((f a).1).owner) xs) (map (digest_of_spent s.hash tx) (map (λ a. deposit s.hash st ((f a).0) ((f a).1)) xs))) (map (λ a. number_of w k ((f a).0)) xs)
+        → AllReady s w tx (map (λ a. deposit s.hash st ((f a).0) ((f a).1)) xs)
+        (deposit_witnesses s (map (λ a. ((f a).1).owner) xs)
+        (map (digest_of_spent s.hash tx) (map (λ a. deposit s.hash st ((f a).0) ((f a).1)) xs))) (map (λ a. number_of w k ((f a).0)) xs)
     ready_all f [] h = tt
     ready_all f (a ∷ xs) h = (ready ((f a).0) ((f a).1) (h a (inl refl)), ready_all f xs (λ b i. h b (inr i)))
 
   -- ---- their numbers differ
 
-  one_name : (x y : List ℕ) (hx hy : Holding) → Is_in (x, hx) (deposits st.advert.pre) → Is_in (y, hy) (deposits st.advert.pre) → number_of w k x ≡ number_of w k y → x ≡ y
+  one_name : (x y : List ℕ) (hx hy : Holding) → Is_in (x, hx) (deposits st.advert.pre) → Is_in (y, hy) (deposits st.advert.pre)
+      → number_of w k x ≡ number_of w k y → x ≡ y
   one_name x y hx hy ix iy e =
       let a = at_bound s g w kept k st compiled x hx ix in
       let b = at_bound s g w kept k st compiled y hy iy in
@@ -151,7 +162,8 @@ module _ (s : Setup) (size : IsHash s.hash) (g : Configuration) (w : World) (kep
       let ad = kept.adverts k (compiled_is s w k st compiled).advertised in
       ad.apart x y b.number (at_k x hx a ∙ ap Some m) (at_k y hy b)
 
-  not_there : {A : Type 0} (f : A → List ℕ × Holding) (x : List ℕ) (hx : Holding) (xs : List A) → Is_in (x, hx) (deposits st.advert.pre) → ((a : A) → Is_in a xs → Is_in (f a) (deposits st.advert.pre))
+  not_there : {A : Type 0} (f : A → List ℕ × Holding) (x : List ℕ) (hx : Holding) (xs : List A) → Is_in (x, hx) (deposits st.advert.pre)
+      → ((a : A) → Is_in a xs → Is_in (f a) (deposits st.advert.pre))
       → is_among x (map (λ a. (f a).0) xs) ≡ false → has_number (number_of w k x) (map (λ a. number_of w k ((f a).0)) xs) ≡ false
   not_there f x hx [] ix h d = refl
   not_there f x hx (a ∷ xs) ix h d =
@@ -161,9 +173,11 @@ module _ (s : Setup) (size : IsHash s.hash) (g : Configuration) (w : World) (kep
       both_ways _ p.0 (subst (λ y. bytes_eq ((f a).0) y ≡ true) z (bytes_refl ((f a).0)))) in
       or_from _ _ n (not_there f x hx xs ix (λ b i. h b (inr i)) p.1)
 
-  pub numbers_apart : {A : Type 0} (f : A → List ℕ × Holding) (xs : List A) → ((a : A) → Is_in a xs → Is_in (f a) (deposits st.advert.pre)) → are_different (map (λ a. (f a).0) xs) ≡ true
+  pub numbers_apart : {A : Type 0} (f : A → List ℕ × Holding) (xs : List A) → ((a : A) → Is_in a xs → Is_in (f a) (deposits st.advert.pre))
+      → are_different (map (λ a. (f a).0) xs) ≡ true
       → are_distinct (map (λ a. number_of w k ((f a).0)) xs) ≡ true
   numbers_apart f [] h d = refl
   numbers_apart f (a ∷ xs) h d =
       let p = and_parts (not (is_among ((f a).0) (map (λ a. (f a).0) xs))) (are_different (map (λ a. (f a).0) xs)) d in
-      and_from _ _ (not_from_false _ (not_there f ((f a).0) ((f a).1) xs (h a (inl refl)) (λ b i. h b (inr i)) (not-true _ p.0))) (numbers_apart f xs (λ b i. h b (inr i)) p.1)
+      and_from _ _ (not_from_false _ (not_there f ((f a).0) ((f a).1) xs (h a (inl refl)) (λ b i. h b (inr i)) (not-true _ p.0)))
+      (numbers_apart f xs (λ b i. h b (inr i)) p.1)

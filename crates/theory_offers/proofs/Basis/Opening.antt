@@ -65,19 +65,29 @@ opening_kept s setup =
 -- ---- signing
 
 -- an endorsed contract stays so
-pub endorsed_later : (hash : List ℕ → List ℕ) (st : Instance) (book later : List Pair) → ((k d : List ℕ) → has_signed book k d ≡ true → has_signed later k d ≡ true) → is_endorsed hash st book ≡ true → is_endorsed hash st later ≡ true
-endorsed_later hash st book later grows h = all_then (is_met book) (is_met later) (needs hash st.contract st.advert (compilation hash st).paths) (λ need m. grows need.key need.digest m) h
+pub endorsed_later : (hash : List ℕ → List ℕ) (st : Instance) (book later : List Pair)
+    → ((k d : List ℕ) → has_signed book k d ≡ true → has_signed later k d ≡ true) → is_endorsed hash st book ≡ true → is_endorsed hash st later ≡ true
+endorsed_later hash st book later grows h =
+    all_then (is_met book) (is_met later) (needs hash st.contract st.advert (compilation hash st).paths) (λ need m. grows need.key need.digest m) h
 
 -- where only the book, the messages and what is posted change, the new authorisations must have their pairs
 pub signs_offers : (s : Setup) (g g' : Configuration) (w : World) (book : List Pair) (hashed posted : List (List ℕ)) → KeptOffers s g w → Constant s g'
     → ((k d : List ℕ) → has_signed w.book k d ≡ true → has_signed book k d ≡ true)
-    → ((k : ℕ) (x : List ℕ) → is_init_authorised g'.init_authorised k x ≡ true → (is_init_authorised g.init_authorised k x ≡ true) ⊎ (is_some (compiled_instance s w k) ≡ true))
-    → ((n i : ℕ) (a : List ℕ) → has_branch_authorised g'.branch_authorised n i a ≡ true → (has_branch_authorised g.branch_authorised n i a ≡ true) ⊎ (is_some (output_at w n) ≡ true))
-    → ((k : ℕ) (st : Instance) (d : List ℕ × Holding) → compiled_instance s w k ≡ Some st → Is_in d (persistent st.advert.pre) → is_init_authorised g'.init_authorised k (d.0) ≡ true → is_bound_live w k d ≡ true
-    → (is_init_authorised g.init_authorised k (d.0) ≡ true) ⊎ (has_signed book (deposit_key s.hash (d.1).owner) (digest_of_spent s.hash (tx_of (initial_unsigned s.hash st)) (deposit s.hash st (d.0) (d.1))) ≡ true))
-    → ((n i : ℕ) (a : List ℕ) (h : ContractPosition) (st : Instance) (here : Standing) (choice : Contract) (b : term.Guarded) → live_position_at w n ≡ Some h → compiled_instance s w h.contract ≡ Some st → position_at s.hash st h.position ≡ Some (here, choice) → slice_get (branches choice) i ≡ Some b
+    → ((k : ℕ) (x : List ℕ) → is_init_authorised g'.init_authorised k x ≡ true
+    → (is_init_authorised g.init_authorised k x ≡ true) ⊎ (is_some (compiled_instance s w k) ≡ true))
+    → ((n i : ℕ) (a : List ℕ) → has_branch_authorised g'.branch_authorised n i a ≡ true
+    → (has_branch_authorised g.branch_authorised n i a ≡ true) ⊎ (is_some (output_at w n) ≡ true))
+    → ((k : ℕ) (st : Instance) (d : List ℕ × Holding) → compiled_instance s w k ≡ Some st → Is_in d (persistent st.advert.pre)
+    → is_init_authorised g'.init_authorised k (d.0) ≡ true → is_bound_live w k d ≡ true
+    → (is_init_authorised g.init_authorised k (d.0) ≡ true) ⊎
+    (has_signed book (deposit_key s.hash (d.1).owner) (digest_of_spent s.hash (tx_of (initial_unsigned s.hash st)) (deposit s.hash st (d.0) (d.1))) ≡ true))
+    → ((n i : ℕ) (a : List ℕ) (h : ContractPosition) (st : Instance) (here : Standing) (choice : Contract) (b : term.Guarded)
+    → live_position_at w n ≡ Some h → compiled_instance s w h.contract ≡ Some st → position_at s.hash st h.position
+    ≡ Some (here, choice) → slice_get (branches choice) i ≡ Some b
     → is_asked b a ≡ true → has_branch_authorised g'.branch_authorised n i a ≡ true
-    → (has_branch_authorised g.branch_authorised n i a ≡ true) ⊎ (has_signed book (key_of s.hash (branch_label h.contract (h.position ++ To i ∷ []) a)) (digest_of_spent s.hash (tx_of (branch_unsigned s.hash st here i b)) here.output) ≡ true))
+    → (has_branch_authorised g.branch_authorised n i a ≡ true) ⊎
+    (has_signed book (key_of s.hash (branch_label h.contract (h.position ++ To i ∷ []) a))
+    (digest_of_spent s.hash (tx_of (branch_unsigned s.hash st here i b)) here.output) ≡ true))
     → KeptOffers s g' (record w { book = book; hashed = hashed; posted = posted })
 signs_offers s g g' w book hashed posted more constant grows first made inits asked = record {
   constant = constant;
@@ -100,7 +110,8 @@ signs_offers s g g' w book hashed posted more constant grows first made inits as
 
 -- where the configuration authorises no more, nothing else is asked
 pub quiet_offers : (s : Setup) (g g' : Configuration) (w : World) (book : List Pair) (hashed posted : List (List ℕ)) → KeptOffers s g w → Constant s g'
-    → ((k d : List ℕ) → has_signed w.book k d ≡ true → has_signed book k d ≡ true) → g'.init_authorised ≡ g.init_authorised → g'.branch_authorised ≡ g.branch_authorised
+    → ((k d : List ℕ) → has_signed w.book k d ≡ true → has_signed book k d ≡ true) → g'.init_authorised ≡ g.init_authorised
+    → g'.branch_authorised ≡ g.branch_authorised
     → KeptOffers s g' (record w { book = book; hashed = hashed; posted = posted })
 quiet_offers s g g' w book hashed posted more constant grows ei eb =
     signs_offers s g g' w book hashed posted more constant grows
@@ -110,7 +121,8 @@ quiet_offers s g g' w book hashed posted more constant grows ei eb =
     (λ n i a h st here choice b e c p t q r. inl (subst (λ xs. has_branch_authorised xs n i a ≡ true) eb r))
 
 -- blocks within the greatest height
-pub mined_offers : (s : Setup) (g g' : Configuration) (w : World) (tip : ℕ) (hashed posted : List (List ℕ)) → KeptOffers s g w → Constant s g' → tip ≤ 499999999 → g'.init_authorised ≡ g.init_authorised → g'.branch_authorised ≡ g.branch_authorised
+pub mined_offers : (s : Setup) (g g' : Configuration) (w : World) (tip : ℕ) (hashed posted : List (List ℕ)) → KeptOffers s g w
+    → Constant s g' → tip ≤ 499999999 → g'.init_authorised ≡ g.init_authorised → g'.branch_authorised ≡ g.branch_authorised
     → KeptOffers s g' (record w { tip = tip; hashed = hashed; posted = posted })
 mined_offers s g g' w tip hashed posted more constant low ei eb = record {
   constant = constant;
@@ -128,10 +140,12 @@ mined_offers s g g' w tip hashed posted more constant low ei eb = record {
 -- ---- advertising and committing
 
 -- what a live contract output holds was compiled
-held_compiled : (s : Setup) (g : Configuration) (w : World) → KeptBook s g w → (n : ℕ) (h : ContractPosition) → live_position_at w n ≡ Some h → (st : Instance) × (compiled_instance s w h.contract ≡ Some st)
+held_compiled : (s : Setup) (g : Configuration) (w : World) → KeptBook s g w → (n : ℕ) (h : ContractPosition) → live_position_at w n
+    ≡ Some h → (st : Instance) × (compiled_instance s w h.contract ≡ Some st)
 held_compiled s g w kept n h e = by_output (slice_get w.outputs n) refl e
   where
-    by_live : (o : Output) → slice_get w.outputs n ≡ Some o → (b : Bool) → (if b then o.holds else None) ≡ Some h → (st : Instance) × (compiled_instance s w h.contract ≡ Some st)
+    by_live : (o : Output) → slice_get w.outputs n ≡ Some o → (b : Bool) → (if b then o.holds else None) ≡ Some h → (st : Instance)
+        × (compiled_instance s w h.contract ≡ Some st)
     by_live o f false q = cc
     by_live o f true q = let k = kept.held n o h f q in (k.instance, k.compiled)
 
@@ -159,7 +173,8 @@ extends_offers s g g' w next kept more constant outs book tip ei eb stays bindin
       let f = old_held n h e in
       let r = held_compiled s g w kept n h f in
       let q = same h.contract r.0 st r.1 c in
-      subst (λ x. is_endorsed s.hash st x ≡ true) (sym book) (more.endorsed n h st f (subst (λ (y : Instance). compiled_instance s w h.contract ≡ Some y) q r.1));
+      subst (λ x. is_endorsed s.hash st x ≡ true) (sym book)
+      (more.endorsed n h st f (subst (λ (y : Instance). compiled_instance s w h.contract ≡ Some y) q r.1));
   inits = λ k st d c i a l.
       let o = old_init k (d.0) a in
       let r = some_of (compiled_instance s w k) (more.compiled_first k (d.0) o) in
@@ -167,13 +182,16 @@ extends_offers s g g' w next kept more constant outs book tip ei eb stays bindin
       let cw : compiled_instance s w k ≡ Some st = subst (λ (y : Instance). compiled_instance s w k ≡ Some y) q r.1 in
       let b = bindings k (compiled_is s w k st cw).advertised in
       let lw : is_bound_live w k d ≡ true = by_number (look_up (d.0) (bindings_at w.advertised k)) (subst (λ bs. names_deposit next (look_up (d.0) bs) ≡ true) b l) in
-      subst (λ x. has_signed x (deposit_key s.hash (d.1).owner) (digest_of_spent s.hash (tx_of (initial_unsigned s.hash st)) (deposit s.hash st (d.0) (d.1))) ≡ true) (sym book) (more.inits k st d cw i o lw);
+      subst (λ x. has_signed x (deposit_key s.hash (d.1).owner)
+      (digest_of_spent s.hash (tx_of (initial_unsigned s.hash st)) (deposit s.hash st (d.0) (d.1))) ≡ true) (sym book) (more.inits k st d cw i o lw);
   asked = λ n i a h st here choice b e c p t q x.
       let f = old_held n h e in
       let r = held_compiled s g w kept n h f in
       let u = same h.contract r.0 st r.1 c in
-      subst (λ y. has_signed y (key_of s.hash (branch_label h.contract (h.position ++ To i ∷ []) a)) (digest_of_spent s.hash (tx_of (branch_unsigned s.hash st here i b)) here.output) ≡ true) (sym book)
-      (more.asked n i a h st here choice b f (subst (λ (y : Instance). compiled_instance s w h.contract ≡ Some y) u r.1) p t q (subst (λ xs. has_branch_authorised xs n i a ≡ true) eb x));
+      subst (λ y. has_signed y (key_of s.hash (branch_label h.contract (h.position ++ To i ∷ []) a))
+      (digest_of_spent s.hash (tx_of (branch_unsigned s.hash st here i b)) here.output) ≡ true) (sym book)
+      (more.asked n i a h st here choice b f (subst (λ (y : Instance). compiled_instance s w h.contract ≡ Some y) u r.1) p t q
+      (subst (λ xs. has_branch_authorised xs n i a ≡ true) eb x));
 }
   where
     old_init : (k : ℕ) (x : List ℕ) → is_init_authorised g'.init_authorised k x ≡ true → is_init_authorised g.init_authorised k x ≡ true

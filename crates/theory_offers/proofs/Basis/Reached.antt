@@ -14,7 +14,7 @@ use Rattle.spec_run.specs.declared.outcome.Reason.TheVariants as reason
 use Rattle.spec_run.specs.Setup.{Setup}
 use Rattle.spec_run.specs.World.{World}
 use Rattle.spec_run.specs.Compiled.{instance_of, compiled_instance}
-use Rattle.spec_run.specs.Draft.{settled}
+use Rattle.spec_run.specs.Pending.{applied}
 use Rattle.spec_data.specs.Messages.{noted_all}
 use Rattle.spec_run.specs.Ledger.{Kind, verdict_in, strings_of, items_of, accepted, judged, reaches, initial_of, new_position, begun_after, kind_of, spend_from, made_from}
 use Rattle.spec_run.specs.Signing.{signed_all, with_pairs}
@@ -36,12 +36,14 @@ BeginsEndorsed s w tx = (k : ℕ) (st : Instance) → initial_of s w tx ≡ Some
 module _ (s : Setup) (z : List (List ℕ)) (g : Configuration) (w : World) (kept : KeptBook s g w) (more : KeptOffers s g w) where
   module _ (tx : Tx) (spent : List ℕ) (is : IsAccepted s w tx spent) where
     abbrev next : World
-    next = settled w (accepted s w tx spent)
+    next = applied w (accepted s w tx spent)
 
     stays : (k : ℕ) (st : Instance) → compiled_instance s w k ≡ Some st → compiled_instance s next k ≡ Some st
     stays k st h =
         let c = compiled_is s w k st h in
-        compiled_stays s w next [] [] k st (sym (append-nil w.advertised)) (sym (append-nil w.promises)) (lasts_spent spent w.outputs (made_from (new_position s (kind_of s w tx spent)) (txid s.hash tx) 0 tx.outputs)) (kept.adverts k c.advertised).made refl h
+        compiled_stays s w next [] [] k st (sym (append-nil w.advertised)) (sym (append-nil w.promises))
+        (lasts_spent spent w.outputs (made_from (new_position s (kind_of s w tx spent)) (txid s.hash tx) 0 tx.outputs))
+        (kept.adverts k c.advertised).made refl h
 
     no_others : (k : ℕ) (st : Instance) → compiled_instance s next k ≡ Some st → compiled_instance s w k ≡ Some st
     no_others k st h =
@@ -54,10 +56,12 @@ module _ (s : Setup) (z : List (List ℕ)) (g : Configuration) (w : World) (kept
     accepted_every e endorsed = entered_offers s g w kept more tx spent is stays no_others endorsed
 
   -- whatever the ledger says of it
-  pub reaches_every : (e : Event) (tx : Tx) → BeginsEndorsed s w tx → KeptOffers s (after_steps g (steps_of s z g w (settled w (reaches s w w tx)) e (reaches s w w tx))) (settled w (reaches s w w tx))
+  pub reaches_every : (e : Event) (tx : Tx) → BeginsEndorsed s w tx
+      → KeptOffers s (after_steps g (steps_of s z g w (applied w (reaches s w w tx)) e (reaches s w w tx))) (applied w (reaches s w w tx))
   reaches_every e tx endorsed = by_verdict (verdict_in s w tx) refl
     where
-      by_verdict : (v : Verdict) → verdict_in s w tx ≡ v → KeptOffers s (after_steps g (steps_of s z g w (settled w (judged s w w tx v)) e (judged s w w tx v))) (settled w (judged s w w tx v))
+      by_verdict : (v : Verdict) → verdict_in s w tx ≡ v
+          → KeptOffers s (after_steps g (steps_of s z g w (applied w (judged s w w tx v)) e (judged s w w tx v))) (applied w (judged s w w tx v))
       by_verdict (verdicts.Refused r) h = refused_offers s z g w kept more e (strings_of s w tx) (reason.Ledger r)
       by_verdict (verdicts.Accepted spent made) h = accepted_every tx spent (accepted_by s w tx spent made h) e endorsed
 
@@ -83,10 +87,11 @@ module _ (s : Setup) (z : List (List ℕ)) (g : Configuration) (w : World) (kept
   }
 
   pub given_accepted : (e : Event) (tx : Tx) (spent : List ℕ) → IsAccepted s seen tx spent → initial_of s w tx ≡ None
-      → KeptOffers s (after_steps g (steps_of s z g w (settled w (accepted s (with_pairs w pairs) tx spent)) e (accepted s (with_pairs w pairs) tx spent))) (settled w (accepted s (with_pairs w pairs) tx spent))
+      → KeptOffers s (after_steps g (steps_of s z g w (applied w (accepted s (with_pairs w pairs) tx spent)) e
+      (accepted s (with_pairs w pairs) tx spent))) (applied w (accepted s (with_pairs w pairs) tx spent))
   given_accepted e tx spent is begins =
-      let next = settled w (accepted s (with_pairs w pairs) tx spent) in
-      let there = settled seen (accepted s seen tx spent) in
+      let next = applied w (accepted s (with_pairs w pairs) tx spent) in
+      let there = applied seen (accepted s seen tx spent) in
       let none : initial_of s seen tx ≡ None = initial_same s w book known tx 0 s.contracts ∙ begins in
       let k : KeptOffers s (after_steps g (accepted_steps s g seen there spent (Some tx))) there = accepted_every s z g seen signed seen_more tx spent is e (λ k st i c. let q = sym none ∙ i in cc) in
       let same : accepted_steps s g seen there spent (Some tx) ≡ accepted_steps s g w next spent (Some tx) = steps_same s w book known g there spent (Some tx) in
@@ -96,9 +101,13 @@ module _ (s : Setup) (z : List (List ℕ)) (g : Configuration) (w : World) (kept
       let changed : KeptOffers s g' (entered tx spent heard (kind_of s seen tx spent)) = quiet_offers s g' g' there book heard (w.posted ++ items_of tx) after_w after_w.constant (λ x d h. h) refl refl in
       subst (λ kind. KeptOffers s g' (entered tx spent heard kind)) (kind_same s w book known tx spent ∙ sym (kind_same s w book w.hashed tx spent)) changed
 
-  pub given_every : (e : Event) (tx : Tx) → initial_of s w tx ≡ None → KeptOffers s (after_steps g (steps_of s z g w (settled w (reaches s w (with_pairs w pairs) tx)) e (reaches s w (with_pairs w pairs) tx))) (settled w (reaches s w (with_pairs w pairs) tx))
+  pub given_every : (e : Event) (tx : Tx) → initial_of s w tx ≡ None
+      → KeptOffers s (after_steps g (steps_of s z g w (applied w (reaches s w (with_pairs w pairs) tx)) e
+      (reaches s w (with_pairs w pairs) tx))) (applied w (reaches s w (with_pairs w pairs) tx))
   given_every e tx begins = by_verdict (verdict_in s (with_pairs w pairs) tx) refl
     where
-      by_verdict : (v : Verdict) → verdict_in s (with_pairs w pairs) tx ≡ v → KeptOffers s (after_steps g (steps_of s z g w (settled w (judged s w (with_pairs w pairs) tx v)) e (judged s w (with_pairs w pairs) tx v))) (settled w (judged s w (with_pairs w pairs) tx v))
+      by_verdict : (v : Verdict) → verdict_in s (with_pairs w pairs) tx ≡ v
+          → KeptOffers s (after_steps g (steps_of s z g w (applied w (judged s w (with_pairs w pairs) tx v)) e
+          (judged s w (with_pairs w pairs) tx v))) (applied w (judged s w (with_pairs w pairs) tx v))
       by_verdict (verdicts.Refused r) h = refused_offers s z g w kept more e (strings_of s (with_pairs w pairs) tx) (reason.Ledger r)
       by_verdict (verdicts.Accepted spent made) h = given_accepted e tx spent (accepted_by s seen tx spent made h) begins

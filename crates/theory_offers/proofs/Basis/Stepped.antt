@@ -18,7 +18,7 @@ use Rattle.spec_compiler.specs.Transactions.{input_of, tx_of, deposit, persisten
 use Rattle.spec_run.specs.Setup.{Setup}
 use Rattle.spec_run.specs.World.{Output, World, is_deposit, bindings_at}
 use Rattle.spec_run.specs.Compiled.{compiled_instance}
-use Rattle.spec_run.specs.Draft.{settled}
+use Rattle.spec_run.specs.Pending.{applied}
 use Rattle.spec_run.specs.Ledger.{spend_from, made_from, kind_of, new_position, accepted}
 use Rattle.spec_run.specs.Steps.{names_deposit, is_bound_live}
 use Rattle.theory_bitcoin.specs.Apart.{bare}
@@ -27,7 +27,7 @@ use Rattle.theory_calculus.proofs.Names.{persistent_deposit}
 use Rattle.theory_world.proofs.Ledger.Accepting.{accepting}
 use Rattle.theory_run.proofs.Accepted.Accept.{bare_in, spent_at}
 use Rattle.theory_world.proofs.Ledger.Worth.{IsAccepted}
-use Rattle.theory_world.proofs.Later.{get-spent, get-front, lasts_spent, compiled_is}
+use Rattle.theory_world.proofs.Later.{get-spent, get-prefix, lasts_spent, compiled_is}
 use Rattle.theory_run.specs.Tracks.{Constant}
 use Rattle.theory_run.specs.KeptBook.{KeptBook}
 use Rattle.theory_run.proofs.Accepted.WhatItIs.{AtBound, at_bound}
@@ -39,7 +39,8 @@ use Rattle.theory_offers.proofs.Basis.Signed.{with_init-split, with_branch-split
 abbrev IsAuthInit : ℕ → List ℕ → Step → Type 0
 IsAuthInit k x step = (party : List ℕ) × (step ≡ steps.AuthInit k party x)
 
-one_init : (g : Configuration) (step : Step) (k : ℕ) (x : List ℕ) → is_init_authorised (calculus.effect g step).init_authorised k x ≡ true → (is_init_authorised g.init_authorised k x ≡ true) ⊎ IsAuthInit k x step
+one_init : (g : Configuration) (step : Step) (k : ℕ) (x : List ℕ) → is_init_authorised (calculus.effect g step).init_authorised k x ≡ true
+    → (is_init_authorised g.init_authorised k x ≡ true) ⊎ IsAuthInit k x step
 one_init g (steps.AuthInit contract party deposit) k x h = elim (with_init-split g.init_authorised contract deposit k x h) [
   | inl a ↦ inl a
   | inr b ↦ inr (party, λ j. steps.AuthInit (b.0 j) party (b.1 j))
@@ -56,14 +57,18 @@ one_init g (steps.PutReveal output branch) k x h = inl h
 one_init g (steps.Withdraw output branch) k x h = inl h
 one_init g (steps.Split output branch) k x h = inl h
 
-pub inits_after : (xs : List Step) (g : Configuration) (k : ℕ) (x : List ℕ) → is_init_authorised (calculus.after_steps g xs).init_authorised k x ≡ true → (is_init_authorised g.init_authorised k x ≡ true) ⊎ ((step : Step) × Is_in step xs × IsAuthInit k x step)
+pub inits_after : (xs : List Step) (g : Configuration) (k : ℕ) (x : List ℕ)
+    → is_init_authorised (calculus.after_steps g xs).init_authorised k x ≡ true
+    → (is_init_authorised g.init_authorised k x ≡ true) ⊎ ((step : Step) × Is_in step xs × IsAuthInit k x step)
 inits_after [] g k x h = inl h
 inits_after (step ∷ xs) g k x h = elim (inits_after xs (calculus.effect g step) k x h) [
   | inl a ↦ elim (one_init g step k x a) [ inl y ↦ inl y | inr y ↦ inr (step, inl refl, y) ]
   | inr b ↦ inr (b.0, inr b.1, b.2)
 ]
 
-one_asked : (g : Configuration) (step : Step) (n i : ℕ) (a : List ℕ) → has_branch_authorised (calculus.effect g step).branch_authorised n i a ≡ true → (has_branch_authorised g.branch_authorised n i a ≡ true) ⊎ (step ≡ steps.AuthBranch a n i)
+one_asked : (g : Configuration) (step : Step) (n i : ℕ) (a : List ℕ)
+    → has_branch_authorised (calculus.effect g step).branch_authorised n i a ≡ true
+    → (has_branch_authorised g.branch_authorised n i a ≡ true) ⊎ (step ≡ steps.AuthBranch a n i)
 one_asked g (steps.AuthBranch party output branch) n i a h = elim (with_branch-split g.branch_authorised party output branch n i a h) [
   | inl x ↦ inl x
   | inr x ↦ inr (λ j. steps.AuthBranch (x.0 j) (x.1 j) (x.2 j))
@@ -80,7 +85,9 @@ one_asked g (steps.PutReveal output branch) n i a h = inl h
 one_asked g (steps.Withdraw output branch) n i a h = inl h
 one_asked g (steps.Split output branch) n i a h = inl h
 
-pub asked_after : (xs : List Step) (g : Configuration) (n i : ℕ) (a : List ℕ) → has_branch_authorised (calculus.after_steps g xs).branch_authorised n i a ≡ true → (has_branch_authorised g.branch_authorised n i a ≡ true) ⊎ Is_in (steps.AuthBranch a n i) xs
+pub asked_after : (xs : List Step) (g : Configuration) (n i : ℕ) (a : List ℕ)
+    → has_branch_authorised (calculus.after_steps g xs).branch_authorised n i a ≡ true
+    → (has_branch_authorised g.branch_authorised n i a ≡ true) ⊎ Is_in (steps.AuthBranch a n i) xs
 asked_after [] g n i a h = inl h
 asked_after (step ∷ xs) g n i a h = elim (asked_after xs (calculus.effect g step) n i a h) [
   | inl x ↦ elim (one_asked g step n i a x) [ inl y ↦ inl y | inr y ↦ inr (inl (sym y)) ]
@@ -109,14 +116,15 @@ constant_after s (step ∷ xs) g c = constant_after s xs (calculus.effect g step
 
 -- ---- bound deposits
 
-pub spends_in : (hash : List ℕ → List ℕ) (st : Instance) (ds : List (List ℕ × Holding)) (d : List ℕ × Holding) → Is_in d ds → Is_in (input_of (deposit hash st (d.0) (d.1))) (map input_of (map (λ (x : List ℕ × Holding). deposit hash st x.0 x.1) ds))
+pub spends_in : (hash : List ℕ → List ℕ) (st : Instance) (ds : List (List ℕ × Holding)) (d : List ℕ × Holding) → Is_in d ds
+    → Is_in (input_of (deposit hash st (d.0) (d.1))) (map input_of (map (λ (x : List ℕ × Holding). deposit hash st x.0 x.1) ds))
 spends_in hash st [] d h = absurd h
 spends_in hash st (x ∷ ds) d (inl e) = inl (ap (λ (y : List ℕ × Holding). input_of (deposit hash st (y.0) (y.1))) e)
 spends_in hash st (x ∷ ds) d (inr i) = inr (spends_in hash st ds d i)
 
 module _ (s : Setup) (g : Configuration) (w : World) (kept : KeptBook s g w) (tx : Tx) (spent : List ℕ) (is : IsAccepted s w tx spent) where
   abbrev next : World
-  next = settled w (accepted s w tx spent)
+  next = applied w (accepted s w tx spent)
 
   abbrev news : List Output
   news = made_from (new_position s (kind_of s w tx spent)) (txid s.hash tx) 0 tx.outputs
@@ -150,5 +158,5 @@ module _ (s : Setup) (g : Configuration) (w : World) (kept : KeptBook s g w) (tx
         let z : at.number + 0 ≡ at.number = omega arith in
         let t : has_number (at.number + 0) spent ≡ true = rw (z, m) r.1 in
         let o : slice_get (spend_from 0 spent w.outputs) at.number ≡ Some (record at.bound.output { live = false }) = get-spent 0 at.number spent w.outputs ∙ ap (option_map _) at.bound.there ∙ rw t refl in
-        let f = get-front (spend_from 0 spent w.outputs) news at.number (record at.bound.output { live = false }) o in
+        let f = get-prefix (spend_from 0 spent w.outputs) news at.number (record at.bound.output { live = false }) o in
         ap (names_deposit next) looked ∙ ap is_deposit f

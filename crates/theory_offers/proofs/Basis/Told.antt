@@ -26,28 +26,38 @@ use Rattle.theory_offers.proofs.Basis.Offered.{KeptOffers}
 use Rattle.theory_offers.proofs.Basis.Opening.{extends_offers}
 use Rattle.theory_world.proofs.Contracts.Endorsed.{in_joined}
 
-pub advertise_offers : (s : Setup) (g : Configuration) (w : World) (k : ℕ) (bs : List (List ℕ × ℕ)) (hashed posted : List (List ℕ)) → KeptBook s g w → KeptOffers s g w
-    → KeptOffers s (after_steps g (steps.Advertise k bs ∷ [])) (record w { advertised = w.advertised ++ record { contract = k; bindings = bs } ∷ []; hashed = hashed; posted = posted })
+pub advertise_offers : (s : Setup) (g : Configuration) (w : World) (k : ℕ) (bs : List (List ℕ × ℕ)) (hashed posted : List (List ℕ))
+    → KeptBook s g w → KeptOffers s g w
+    → KeptOffers s (after_steps g (steps.Advertise k bs ∷ []))
+    (record w { advertised = w.advertised ++ record { contract = k; bindings = bs } ∷ []; hashed = hashed; posted = posted })
 advertise_offers s g w k bs hashed posted kept more =
     let new : List Advertised = record { contract = k; bindings = bs } ∷ [] in
     let next : World = record w { advertised = w.advertised ++ record { contract = k; bindings = bs } ∷ []; hashed = hashed; posted = posted } in
     extends_offers s g (after_steps g (steps.Advertise k bs ∷ [])) w next kept more
     (record { parties = more.constant.parties; honest = more.constant.honest; contracts = more.constant.contracts }) refl refl refl refl refl
-    (λ j st h. compiled_stays s w next new [] j st refl (sym (append-nil w.promises)) (lasts_refl w.outputs) (kept.adverts j (compiled_is s w j st h).advertised).made refl h)
+    (λ j st h. compiled_stays s w next new [] j st refl (sym (append-nil w.promises)) (lasts_refl w.outputs)
+    (kept.adverts j (compiled_is s w j st h).advertised).made refl h)
     (λ j h. bindings-more w.advertised new j h)
     (λ j a h. any-append (λ (x : Advertised). x.contract == j) w.advertised new ∙ or_left _ _ (more.told j a h))
     more.named
 
 -- a commitment of a participant that hasn't committed
-pub commit_offers : (s : Setup) (g g' : Configuration) (w : World) (k : ℕ) (party : List ℕ) (entries : List (List ℕ × List ℕ)) (hashed posted : List (List ℕ)) → KeptBook s g w → KeptOffers s g w → Constant s g'
+pub commit_offers : (s : Setup) (g g' : Configuration) (w : World) (k : ℕ) (party : List ℕ) (entries : List (List ℕ × List ℕ))
+    (hashed posted : List (List ℕ)) → KeptBook s g w → KeptOffers s g w → Constant s g'
     → g'.init_authorised ≡ g.init_authorised → g'.branch_authorised ≡ g.branch_authorised
     → is_advertised w k ≡ true → is_among party (people_at s k) ≡ true → has_promised w k party ≡ false
-    → KeptOffers s g' (record w { promises = w.promises ++ record { contract = k; party = party; digests = arranged [] (secrets_at s k party) entries } ∷ []; hashed = hashed; posted = posted })
+    → KeptOffers s g' (record w {
+      promises = w.promises
+          ++ record { contract = k; party = party; digests = arranged [] (secrets_at s k party) entries } ∷ [];
+      hashed = hashed;
+      posted = posted;
+    })
 commit_offers s g g' w k party entries hashed posted kept more constant ei eb adv part fresh =
     let new : Promise = record { contract = k; party = party; digests = arranged [] (secrets_at s k party) entries } in
     let next : World = record w { promises = w.promises ++ record { contract = k; party = party; digests = arranged [] (secrets_at s k party) entries } ∷ []; hashed = hashed; posted = posted } in
     extends_offers s g g' w next kept more constant refl refl refl ei eb
-    (λ j st h. compiled_stays s w next [] (new ∷ []) j st (sym (append-nil w.advertised)) refl (lasts_refl w.outputs) (kept.adverts j (compiled_is s w j st h).advertised).made (or_from _ _ (others j st h) refl) h)
+    (λ j st h. compiled_stays s w next [] (new ∷ []) j st (sym (append-nil w.advertised)) refl (lasts_refl w.outputs)
+    (kept.adverts j (compiled_is s w j st h).advertised).made (or_from _ _ (others j st h) refl) h)
     (λ j h. refl)
     (λ j a h. elim (or_cases _ _ (sym (any-append (is_promise_of j a) w.promises (new ∷ [])) ∙ h)) [
       | inl x ↦ more.told j a x

@@ -8,4 +8,4 @@ use Rattle.spec_tool.specs.Keyed.Listed.{Listed, listed_at}
 -- a contract's transaction has signers for each of its inputs
 abbrev pub SignersForEach : Type 0
 SignersForEach = (hash : List ℕ → List ℕ) (keys : Keys) (instance : Instance) (which : Which) (l : Listed)
-    → listed_at hash keys instance which ≡ Some l → length l.signers ≡ length l.draft.spends
+    → listed_at hash keys instance which ≡ Some l → length l.signers ≡ length l.pending.spends

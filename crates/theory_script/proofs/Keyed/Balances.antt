@@ -161,7 +161,11 @@ module _ (hash : List ℕ → List ℕ) (keys : Keys) (s : Instance) where
       by_branch (Some b) e q =
           let z : by_path.at_branch here i b ≡ st = cc in
           let n : i + 0 ≡ i = omega arith in
-          subst Fine z (f.0, subst (λ m. BranchFine (branch_path here.position m) here.output.value b) n (choice_fine here.position here.output.value 0 i choice b e f.2))
+          subst Fine z (
+            f.0,
+            subst (λ m. BranchFine (branch_path here.position m) here.output.value b) n
+                (choice_fine here.position here.output.value 0 i choice b e f.2),
+          )
 
   -- what a put goes on with
   put_fine : (p : List PathStep) (v : ℕ) (puts reveals : List (List ℕ)) (test : term.Pred) (next : Contract)
@@ -217,7 +221,8 @@ module _ (hash : List ℕ → List ℕ) (keys : Keys) (s : Instance) where
   split_fine here i k b (split ps) st e f h = by_part (slice_get (parts_list ps) k) refl h
     where
       by_part : (o : Option (ℕ × Contract)) → slice_get (parts_list ps) k ≡ o
-          → option_map (λ (p : ℕ × Contract). by_path.at_position (part_standing hash keys s (branch_path here.position i) (branch_unsigned hash keys s here i b) k p.0 p.1) p.1) o ≡ Some st → Fine st
+          → option_map (λ (p : ℕ × Contract). by_path.at_position
+          (part_standing hash keys s (branch_path here.position i) (branch_unsigned hash keys s here i b) k p.0 p.1) p.1) o ≡ Some st → Fine st
       by_part None g q = cc
       by_part (Some x) g q =
           let z : by_path.at_position (part_standing hash keys s (branch_path here.position i) (branch_unsigned hash keys s here i b) k x.0 x.1) x.1 ≡ st = cc in

@@ -15,7 +15,8 @@ first_is : (k last : ℕ) (x : List ℕ) (xs : List (List ℕ)) (b : Bool) → t
 first_is k last x xs b h = ap (λ t. if t then k else first_true (k + 1) last xs) h
 
 -- of m + 1 branches
-chosen_of : (m i k : ℕ) (selectors rest : List (List ℕ)) → i < suc m → map truth selectors ≡ selection i (suc m) → first_true k (k + m) (take m (selectors ++ rest)) ≡ k + i
+chosen_of : (m i k : ℕ) (selectors rest : List (List ℕ)) → i < suc m → map truth selectors ≡ selection i (suc m)
+    → first_true k (k + m) (take m (selectors ++ rest)) ≡ k + i
 chosen_of zero i k selectors rest below s = omega arith
 chosen_of (suc m) zero k selectors rest below s =
     let t : nat_lt (0 + 1) (suc (suc m)) ≡ true = grind arith in
@@ -27,7 +28,9 @@ chosen_of (suc m) zero k selectors rest below s =
 chosen_of (suc m) (suc i) k selectors rest below s =
     by_next selectors (s ∙ next_selection i (suc m)) (λ xs e. chosen_of m i (k + 1) xs rest (omega arith) e)
   where
-    by_next : (xs : List (List ℕ)) → map truth xs ≡ false ∷ selection i (suc m) → ((ys : List (List ℕ)) → map truth ys ≡ selection i (suc m) → first_true (k + 1) (k + 1 + m) (take m (ys ++ rest)) ≡ k + 1 + i) → first_true k (k + suc m) (take (suc m) (xs ++ rest)) ≡ k + suc i
+    by_next : (xs : List (List ℕ)) → map truth xs ≡ false ∷ selection i (suc m)
+        → ((ys : List (List ℕ)) → map truth ys ≡ selection i (suc m) → first_true (k + 1) (k + 1 + m) (take m (ys ++ rest)) ≡ k + 1 + i)
+        → first_true k (k + suc m) (take (suc m) (xs ++ rest)) ≡ k + suc i
     by_next [] e ih = cc
     by_next (x ∷ xs) e ih =
         let h : truth x ≡ false = cc in
@@ -44,7 +47,8 @@ chosen_from (suc m) i selectors rest below s =
     ∙ ap (λ (k : ℕ). first_true 0 k (take m (selectors ++ rest))) (sym z)
     ∙ chosen_of m i 0 selectors rest below s ∙ omega arith
 
-pub opened_is_chosen : (hash : List ℕ → List ℕ) (keys : Keys) (valid : List ℕ → List ℕ → Bool) (s : Instance) (position : List PathStep) (choice : Contract) (stack : List (List ℕ)) (opened : Opens hash keys valid s position choice stack) → chosen (length (branches choice)) stack ≡ opened.i
+pub opened_is_chosen : (hash : List ℕ → List ℕ) (keys : Keys) (valid : List ℕ → List ℕ → Bool) (s : Instance) (position : List PathStep)
+    (choice : Contract) (stack : List (List ℕ)) (opened : Opens hash keys valid s position choice stack) → chosen (length (branches choice)) stack ≡ opened.i
 opened_is_chosen hash keys valid s position choice stack o =
     ap (chosen (length (branches choice))) o.is_stack
     ∙ chosen_from (length (branches choice)) o.i o.selectors (o.strings ++ o.signatures) (get_below (branches choice) o.i o.b o.is_branch) o.selects

@@ -35,7 +35,8 @@ key_sizes hash keys contract path (party ∷ parties) are_keys =
     let size : has_size 33 (key_in hash keys (branch_label contract path party)) ≡ true = rw (are_keys (branch_label contract path party)) refl in
     and_from (has_size 33 (key_in hash keys (branch_label contract path party))) _ size (key_sizes hash keys contract path parties are_keys)
 
-core_well : (c : term.Guarded) (keys : List (List ℕ)) (hashes : List (List ℕ × List ℕ)) → 0 < length keys → list_all (has_size 33) keys ≡ true → IsSound hashes c → IsWell (demands_of c keys hashes)
+core_well : (c : term.Guarded) (keys : List (List ℕ)) (hashes : List (List ℕ × List ℕ)) → 0 < length keys → list_all (has_size 33) keys
+    ≡ true → IsSound hashes c → IsWell (demands_of c keys hashes)
 core_well c keys hashes some sizes s =
     let n = length-map (reveals_of c) (digest_of hashes) in
     record {
@@ -53,7 +54,8 @@ length_from keys hashes i [] = refl
 length_from keys hashes i (b ∷ bs) = ap suc (length_from keys hashes (i + 1) bs)
 
 -- which branch of the position asks for them
-demands_at : (keys : ℕ → List (List ℕ)) (hashes : List (List ℕ × List ℕ)) (k i : ℕ) (bs : List term.Guarded) → slice_get (demands_from keys hashes k bs) i ≡ option_map (λ (b : term.Guarded). demands_of (core b) (keys (k + i)) hashes) (slice_get bs i)
+demands_at : (keys : ℕ → List (List ℕ)) (hashes : List (List ℕ × List ℕ)) (k i : ℕ) (bs : List term.Guarded)
+    → slice_get (demands_from keys hashes k bs) i ≡ option_map (λ (b : term.Guarded). demands_of (core b) (keys (k + i)) hashes) (slice_get bs i)
 demands_at keys hashes k i [] = refl
 demands_at keys hashes k zero (b ∷ bs) = let e : k + 0 ≡ k = omega arith in rw e
 demands_at keys hashes k (suc i) (b ∷ bs) = let e : k + suc i ≡ k + 1 + i = omega arith in rw e (demands_at keys hashes (k + 1) i bs)
@@ -68,11 +70,13 @@ module _ (hash : List ℕ → List ℕ) (keys : Keys) (s : Instance) (position :
   all_well : (i : ℕ) (bs : List term.Guarded) → AreKeys hash keys → 0 < length (people s) → AllSound s.hashes bs → AllWell (demands_from keys_at s.hashes i bs)
   all_well i [] are_keys some sound = tt
   all_well i (b ∷ bs) are_keys some sound = (
-    core_well (core b) (keys_at i) s.hashes (omega (arith, some, one_each i)) (key_sizes hash keys s.contract (branch_path position i) (people s) are_keys) sound.0,
+    core_well (core b) (keys_at i) s.hashes (omega (arith, some, one_each i))
+        (key_sizes hash keys s.contract (branch_path position i) (people s) are_keys) sound.0,
     all_well (i + 1) bs are_keys some sound.1,
   )
 
-  branch_demands : (choice : Contract) (i : ℕ) → slice_get (position_demands hash keys s position choice) i ≡ option_map (λ (b : term.Guarded). demands_of (core b) (keys_at i) s.hashes) (slice_get (branches choice) i)
+  branch_demands : (choice : Contract) (i : ℕ) → slice_get (position_demands hash keys s position choice) i
+      ≡ option_map (λ (b : term.Guarded). demands_of (core b) (keys_at i) s.hashes) (slice_get (branches choice) i)
   branch_demands choice i = let e : 0 + i ≡ i = omega arith in subst (λ (j : ℕ). slice_get (position_demands hash keys s position choice) i ≡ option_map (λ (b : term.Guarded). demands_of (core b) (keys_at j) s.hashes) (slice_get (branches choice) i)) e (demands_at keys_at s.hashes 0 i (branches choice))
 
   pub is_checked : (choice : Contract) → AreKeys hash keys → IsCompiled s position choice → IsChecked (position_demands hash keys s position choice)
@@ -89,7 +93,9 @@ module _ (hash : List ℕ → List ℕ) (keys : Keys) (s : Instance) (position :
   -- ---- what opens it
 
   module _ (valid : List ℕ → List ℕ → Bool) (choice : Contract) where
-    opens_with : (stack : List (List ℕ)) (u : Unlocks hash valid (position_demands hash keys s position choice) stack) (o : Option term.Guarded) → slice_get (branches choice) u.i ≡ o → Some u.b ≡ option_map (λ (b : term.Guarded). demands_of (core b) (keys_at u.i) s.hashes) o → Opens hash keys valid s position choice stack
+    opens_with : (stack : List (List ℕ)) (u : Unlocks hash valid (position_demands hash keys s position choice) stack)
+        (o : Option term.Guarded) → slice_get (branches choice) u.i ≡ o → Some u.b
+        ≡ option_map (λ (b : term.Guarded). demands_of (core b) (keys_at u.i) s.hashes) o → Opens hash keys valid s position choice stack
     opens_with stack u None at e = cc
     opens_with stack u (Some b) at e =
         let same : u.b ≡ demands_of (core b) (keys_at u.i) s.hashes = cc in
@@ -107,10 +113,12 @@ module _ (hash : List ℕ → List ℕ) (keys : Keys) (s : Instance) (position :
           signed = subst (λ (d : Demands). are_valid valid u.signatures d.keys ≡ true) same u.signed;
         }
 
-    pub opens_of : (stack : List (List ℕ)) → Unlocks hash valid (position_demands hash keys s position choice) stack → Opens hash keys valid s position choice stack
+    pub opens_of : (stack : List (List ℕ)) → Unlocks hash valid (position_demands hash keys s position choice) stack
+        → Opens hash keys valid s position choice stack
     opens_of stack u = opens_with stack u (slice_get (branches choice) u.i) refl (sym u.is_branch ∙ branch_demands choice u.i)
 
-    pub unlocks_of : (stack : List (List ℕ)) → Opens hash keys valid s position choice stack → Unlocks hash valid (position_demands hash keys s position choice) stack
+    pub unlocks_of : (stack : List (List ℕ)) → Opens hash keys valid s position choice stack
+        → Unlocks hash valid (position_demands hash keys s position choice) stack
     unlocks_of stack o =
         record {
           i = o.i;
@@ -126,7 +134,8 @@ module _ (hash : List ℕ → List ℕ) (keys : Keys) (s : Instance) (position :
           signed = o.signed;
         }
 
-    pub opens_exactly : (stack : List (List ℕ)) → AreKeys hash keys → IsCompiled s position choice → list_all is_short stack ≡ true → OpensExactly hash keys valid s position choice stack
+    pub opens_exactly : (stack : List (List ℕ)) → AreKeys hash keys → IsCompiled s position choice → list_all is_short stack ≡ true
+        → OpensExactly hash keys valid s position choice stack
     unfolding position_script
     opens_exactly stack are_keys c short =
         let u = says hash valid (position_demands hash keys s position choice) stack (is_checked choice are_keys c) short in

@@ -43,14 +43,19 @@ secrets_short hash (x ∷ strings) (digest ∷ digests) h =
     let r = and_parts (nat_le 16 (length x)) (nat_le (length x) 520) q.0 in
     and_from (is_short x) (list_all is_short strings) r.1 (secrets_short hash strings digests p.1)
 
-pub stack_short : (signatures strings : List (List ℕ)) (i n : ℕ) → list_all is_short signatures ≡ true → list_all is_short strings ≡ true → list_all is_short (witness_stack signatures strings i n) ≡ true
+pub stack_short : (signatures strings : List (List ℕ)) (i n : ℕ) → list_all is_short signatures ≡ true → list_all is_short strings ≡ true
+    → list_all is_short (witness_stack signatures strings i n) ≡ true
 stack_short signatures strings i n h k =
     all_append is_short (reverse signatures) _ (all_reverse is_short signatures h)
-    (all_append is_short (reverse strings) (reverse (selectors i n)) (all_reverse is_short strings k) (all_reverse is_short (selectors i n) (selectors_short i n)))
+    (all_append is_short (reverse strings) (reverse (selectors i n)) (all_reverse is_short strings k)
+    (all_reverse is_short (selectors i n) (selectors_short i n)))
 
 -- ---- it opens
 
-pub witness_opens : (hash : List ℕ → List ℕ) (keys : Keys) (valid : List ℕ → List ℕ → Bool) (s : Instance) (position : List PathStep) (choice : Contract) (i : ℕ) (signatures strings : List (List ℕ)) → AreKeys hash keys → IsCompiled s position choice → Fills hash keys valid s position choice i signatures strings → script_meaning hash valid (position_script hash keys s position choice) (witness_stack signatures strings i (length (branches choice))) ≡ true
+pub witness_opens : (hash : List ℕ → List ℕ) (keys : Keys) (valid : List ℕ → List ℕ → Bool) (s : Instance) (position : List PathStep)
+    (choice : Contract) (i : ℕ) (signatures strings : List (List ℕ)) → AreKeys hash keys → IsCompiled s position choice
+    → Fills hash keys valid s position choice i signatures strings
+    → script_meaning hash valid (position_script hash keys s position choice) (witness_stack signatures strings i (length (branches choice))) ≡ true
 witness_opens hash keys valid s position choice i signatures strings are_keys c f =
     let short = stack_short signatures strings i (length (branches choice)) f.short (secrets_short hash strings _ f.fits) in
     let opens : Opens hash keys valid s position choice (reverse (witness_stack signatures strings i (length (branches choice)))) = record {

@@ -77,7 +77,8 @@ module _ (f : Subterm → Bool) where
   each_next (position c) (Into k) h = tt
   each_next (at_branch b) step h = each_below (core b) step (each_core b h.1)
 
-  if_each : (steps : List PathStep) (o : Option Subterm) → IfEach o → ((q : Subterm) → EachFrom q → IfEach (subterm_from q steps)) → IfEach (option_and_then (λ q. subterm_from q steps) o)
+  if_each : (steps : List PathStep) (o : Option Subterm) → IfEach o → ((q : Subterm) → EachFrom q → IfEach (subterm_from q steps))
+      → IfEach (option_and_then (λ q. subterm_from q steps) o)
   if_each steps None h k = tt
   if_each steps (Some q) h k = k q h
 
@@ -154,7 +155,8 @@ module _ (f : Subterm → Bool) (t : Funded → Bool) (says : (s : Funded) → t
         (says (as_funded (p ++ Into k ∷ []) (pos v) (position c)) h.0, each_of (p ++ Into k ∷ []) (pos v) 0 c q.0, each_of_parts p (k + 1) ps q.1)
 
 -- what no entry of an advert fails is true of the root and of all under it
-pub each_of_advert : (f : Subterm → Bool) (t : Funded → Bool) (a : Advert) → ((s : Funded) → t s ≡ false → f s.subterm ≡ true) → first_place t (all_funded a) ≡ None → EachChoice f a.root
+pub each_of_advert : (f : Subterm → Bool) (t : Funded → Bool) (a : Advert) → ((s : Funded) → t s ≡ false → f s.subterm ≡ true)
+    → first_place t (all_funded a) ≡ None → EachChoice f a.root
 each_of_advert f t a says h =
     let n = none_of t (all_funded a) h in
     (says (as_funded [] (root_balance a) (position a.root)) n.0, each_of f t says (volatile a.pre) a.fee [] (root_balance a) 0 a.root n.1)

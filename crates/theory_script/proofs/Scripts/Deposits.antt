@@ -26,13 +26,26 @@ deposit_checked key h =
     let size : has_size 33 key ≡ true = grind (arith, h) in
     record {
       some_branch = omega arith;
-      well = (record { same_length = refl; known = refl; bounded = refl; some_key = omega arith; digest_sizes = refl; key_sizes = and_from (has_size 33 key) true size refl; no_test = λ e. refl }, tt);
+      well = (
+        record {
+          same_length = refl;
+          known = refl;
+          bounded = refl;
+          some_key = omega arith;
+          digest_sizes = refl;
+          key_sizes = and_from
+              (has_size 33 key) true size refl;
+          no_test = λ e. refl;
+        },
+        tt,
+      );
       bytes = omega arith;
       operations = omega arith;
     }
 
 -- it is true exactly on one signature that is valid
-pub deposit_meaning : (hash : Item → Item) (valid : Item → Item → Bool) (key : Item) (stack : List Item) → length key ≡ 33 → list_all is_short stack ≡ true → script_meaning hash valid (deposit_script key) stack ≡ are_valid valid (reverse stack) (key ∷ [])
+pub deposit_meaning : (hash : Item → Item) (valid : Item → Item → Bool) (key : Item) (stack : List Item) → length key ≡ 33
+    → list_all is_short stack ≡ true → script_meaning hash valid (deposit_script key) stack ≡ are_valid valid (reverse stack) (key ∷ [])
 deposit_meaning hash valid key stack h short =
     ap (λ (bytes : List ℕ). script_meaning hash valid bytes stack) (deposit_bytes key h)
     ∙ meaning_is hash valid (one_key key ∷ []) stack (deposit_checked key h) short

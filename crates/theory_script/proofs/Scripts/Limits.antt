@@ -53,7 +53,8 @@ module _ (hash : Item → Item) (valid : Item → Item → Bool) where
   effect_holds (Some (Binary b)) [] alt = tt
   effect_holds (Some (Binary b)) (y ∷ []) alt = tt
   effect_holds (Some (Binary b)) (y ∷ (x ∷ m)) alt =
-      on_main_holds (length m + 1) _ (binary_of b (y ∷ (x ∷ m))) alt (omega arith) (number_has _ (number_of_item x) _ (λ k. number_has _ (number_of_item y) _ (λ l. omega arith)))
+      on_main_holds (length m + 1) _ (binary_of b (y ∷ (x ∷ m))) alt (omega arith)
+      (number_has _ (number_of_item x) _ (λ k. number_has _ (number_of_item y) _ (λ l. omega arith)))
   effect_holds (Some If) m alt = tt
   effect_holds (Some NotIf) m alt = tt
   effect_holds (Some Else) m alt = tt
@@ -70,7 +71,9 @@ module _ (hash : Item → Item) (valid : Item → Item → Bool) where
   effect_holds (Some Dup) [] alt = tt
   effect_holds (Some Dup) (x ∷ m) alt = omega arith
   effect_holds (Some Pick) [] alt = tt
-  effect_holds (Some Pick) (x ∷ m) alt = on_main_holds (length m + 1) _ (pick_of (x ∷ m)) alt (omega arith) (map_has (length m + 1) (copied_of (number_of_item x) m) (λ (y : Item). y ∷ m) (λ y. omega arith))
+  effect_holds (Some Pick) (x ∷ m) alt =
+      on_main_holds (length m + 1) _ (pick_of (x ∷ m)) alt (omega arith)
+      (map_has (length m + 1) (copied_of (number_of_item x) m) (λ (y : Item). y ∷ m) (λ y. omega arith))
   effect_holds (Some Swap) [] alt = tt
   effect_holds (Some Swap) (y ∷ []) alt = tt
   effect_holds (Some Swap) (y ∷ (x ∷ m)) alt = omega arith
@@ -81,14 +84,17 @@ module _ (hash : Item → Item) (valid : Item → Item → Bool) where
   effect_holds (Some Equal) (y ∷ (x ∷ m)) alt = omega arith
   effect_holds (Some EqualVerify) [] alt = tt
   effect_holds (Some EqualVerify) (y ∷ []) alt = tt
-  effect_holds (Some EqualVerify) (y ∷ (x ∷ m)) alt = on_main_holds (length m + 1) _ (verify_of (item_of_bool (bytes_eq x y) ∷ m)) alt (omega arith) (if_has (length m + 1) (truth (item_of_bool (bytes_eq x y))) m (omega arith))
+  effect_holds (Some EqualVerify) (y ∷ (x ∷ m)) alt =
+      on_main_holds (length m + 1) _ (verify_of (item_of_bool (bytes_eq x y) ∷ m)) alt (omega arith)
+      (if_has (length m + 1) (truth (item_of_bool (bytes_eq x y))) m (omega arith))
   effect_holds (Some Not) [] alt = tt
   effect_holds (Some Not) (x ∷ m) alt = on_main_holds (length m + 1) _ (not_of (x ∷ m)) alt (omega arith) (number_has _ (number_of_item x) _ (λ k. omega arith))
   effect_holds (Some Within) [] alt = tt
   effect_holds (Some Within) (z ∷ []) alt = tt
   effect_holds (Some Within) (z ∷ (y ∷ [])) alt = tt
   effect_holds (Some Within) (z ∷ (y ∷ (x ∷ m))) alt =
-      on_main_holds (length m + 1) _ _ alt (omega arith) (number_has _ (number_of_item x) _ (λ k. number_has _ (number_of_item y) _ (λ l. number_has _ (number_of_item z) _ (λ j. omega arith))))
+      on_main_holds (length m + 1) _ _ alt (omega arith)
+      (number_has _ (number_of_item x) _ (λ k. number_has _ (number_of_item y) _ (λ l. number_has _ (number_of_item z) _ (λ j. omega arith))))
   effect_holds (Some Sha256) [] alt = tt
   effect_holds (Some Sha256) (x ∷ m) alt = omega arith
   effect_holds (Some Hash256) [] alt = tt
@@ -98,7 +104,9 @@ module _ (hash : Item → Item) (valid : Item → Item → Bool) where
   effect_holds (Some CheckSig) (y ∷ (x ∷ m)) alt = omega arith
   effect_holds (Some CheckSigVerify) [] alt = tt
   effect_holds (Some CheckSigVerify) (y ∷ []) alt = tt
-  effect_holds (Some CheckSigVerify) (y ∷ (x ∷ m)) alt = on_main_holds (length m + 1) _ (verify_of (item_of_bool (valid x y) ∷ m)) alt (omega arith) (if_has (length m + 1) (truth (item_of_bool (valid x y))) m (omega arith))
+  effect_holds (Some CheckSigVerify) (y ∷ (x ∷ m)) alt =
+      on_main_holds (length m + 1) _ (verify_of (item_of_bool (valid x y) ∷ m)) alt (omega arith)
+      (if_has (length m + 1) (truth (item_of_bool (valid x y))) m (omega arith))
 
   pub act_holds : (op : Op) (s : Stacks) → Holds (length s.main + length s.alt + 1) (free_act hash valid op s)
   act_holds (Push item) s = omega arith
@@ -114,15 +122,18 @@ module _ (hash : Item → Item) (valid : Item → Item → Bool) where
   flat_run [] s = Some s
   flat_run (op ∷ ops) s = option_and_then (flat_run ops) (act hash valid op s)
 
-within_out : (t : Stacks) (f g : Stacks → Option Stacks) (b : Bool) → (succeeds (f t) ≡ true → succeeds (g t) ≡ true) → succeeds (option_and_then f (if b then Some t else None)) ≡ true → succeeds (g t) ≡ true
+within_out : (t : Stacks) (f g : Stacks → Option Stacks) (b : Bool) → (succeeds (f t) ≡ true → succeeds (g t) ≡ true)
+    → succeeds (option_and_then f (if b then Some t else None)) ≡ true → succeeds (g t) ≡ true
 within_out t f g true k h = k h
 within_out t f g false k h = cc
 
-step_out : (o : Option Stacks) (f g : Stacks → Option Stacks) → ((t : Stacks) → succeeds (f t) ≡ true → succeeds (g t) ≡ true) → succeeds (option_and_then f (option_and_then within_limit o)) ≡ true → succeeds (option_and_then g o) ≡ true
+step_out : (o : Option Stacks) (f g : Stacks → Option Stacks) → ((t : Stacks) → succeeds (f t) ≡ true → succeeds (g t) ≡ true)
+    → succeeds (option_and_then f (option_and_then within_limit o)) ≡ true → succeeds (option_and_then g o) ≡ true
 step_out None f g k h = h
 step_out (Some t) f g k h = within_out t f g (nat_le (length t.main + length t.alt) 1000) (k t) h
 
-pub step_in : (o : Option Stacks) (f g : Stacks → Option Stacks) (n : ℕ) → n ≤ 1000 → Holds n o → ((t : Stacks) → length t.main + length t.alt ≤ n → f t ≡ g t) → option_and_then f (option_and_then within_limit o) ≡ option_and_then g o
+pub step_in : (o : Option Stacks) (f g : Stacks → Option Stacks) (n : ℕ) → n ≤ 1000 → Holds n o
+    → ((t : Stacks) → length t.main + length t.alt ≤ n → f t ≡ g t) → option_and_then f (option_and_then within_limit o) ≡ option_and_then g o
 step_in None f g n le h k = refl
 step_in (Some t) f g n le h k = let e : nat_le (length t.main + length t.alt) 1000 ≡ true = grind (arith, h) in rw e (k t h)
 
@@ -139,9 +150,11 @@ module _ (hash : Item → Item) (valid : Item → Item → Bool) where
   limit_unmet [] s le = refl
   limit_unmet (op ∷ ops) s le =
       rw (act_is hash valid op s)
-      (step_in (free_act hash valid op s) (flat_run hash valid ops) (free_run hash valid ops) (length s.main + length s.alt + 1) (omega arith) (act_holds hash valid op s) (λ t k. limit_unmet ops t (omega arith)))
+      (step_in (free_act hash valid op s) (flat_run hash valid ops) (free_run hash valid ops) (length s.main + length s.alt + 1)
+      (omega arith) (act_holds hash valid op s) (λ t k. limit_unmet ops t (omega arith)))
 
-  pub run_plains : (ops : List Op) (rest : Items) (s : Stacks) → run hash valid (plains ops rest) s ≡ option_and_then (run hash valid rest) (flat_run hash valid ops s)
+  pub run_plains : (ops : List Op) (rest : Items) (s : Stacks) → run hash valid (plains ops rest) s
+      ≡ option_and_then (run hash valid rest) (flat_run hash valid ops s)
   run_plains [] rest s = refl
   run_plains (op ∷ ops) rest s =
       ap (λ (f : Stacks → Option Stacks). option_and_then f (act hash valid op s)) (λ i t. run_plains ops rest t i)

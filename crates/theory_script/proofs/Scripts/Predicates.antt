@@ -44,35 +44,45 @@ pub deeper : (names : List (List ℕ)) (lens : List (List ℕ × ℕ)) (d : ℕ)
 deeper names lens d m x sees = record { at = λ a h. let e : d + 1 + place_in names a ≡ suc (d + place_in names a) = omega arith in rw e (sees.at a h) }
 
 module _ (hash : Item → Item) (valid : Item → Item → Bool) (names : List (List ℕ)) (lens : List (List ℕ × ℕ)) (short : (a : List ℕ) → length_in lens a ≤ 504) where
-  length_runs : (a : List ℕ) (d : ℕ) (m alt : List Item) → is_among a names ≡ true → d + 2 + length names ≤ 2147483647 → Sees names lens d m → free_run hash valid (formula_ops names d (length_of a)) (stacks m alt) ≡ Some (stacks (item_of_number (value lens (length_of a)) ∷ m) alt)
+  length_runs : (a : List ℕ) (d : ℕ) (m alt : List Item) → is_among a names ≡ true → d + 2 + length names ≤ 2147483647 → Sees names lens d m
+      → free_run hash valid (formula_ops names d (length_of a)) (stacks m alt) ≡ Some (stacks (item_of_number (value lens (length_of a)) ∷ m) alt)
   length_runs a d m alt known fits sees =
       let place = number_again (pos (d + place_in names a)) (omega (arith, place_within names a)) in
       let long = number_again (pos (length_in lens a + 16)) (omega (arith, short a)) in
       let less : pos (length_in lens a + 16) -ℤ pos 16 ≡ pos (length_in lens a) = omega (arith, ints) in
       rw (push_runs hash valid (d + place_in names a) m alt, place, sees.at a known, long, number_again (pos 16) (omega arith), less)
 
-  pub formula_runs : (e : Expr) (d : ℕ) (m alt : List Item) → covers names e ≡ true → bound e ≤ 2147483647 → d + formula_operations e + length names ≤ 2147483647 → Sees names lens d m → free_run hash valid (formula_ops names d e) (stacks m alt) ≡ Some (stacks (item_of_number (value lens e) ∷ m) alt)
+  pub formula_runs : (e : Expr) (d : ℕ) (m alt : List Item) → covers names e ≡ true → bound e ≤ 2147483647
+      → d + formula_operations e + length names ≤ 2147483647 → Sees names lens d m
+      → free_run hash valid (formula_ops names d e) (stacks m alt) ≡ Some (stacks (item_of_number (value lens e) ∷ m) alt)
   formula_runs (constant n) d m alt known small fits sees = rw (push_runs hash valid n m alt)
   formula_runs (length_of a) d m alt known small fits sees = length_runs a d m alt known (omega arith) sees
   formula_runs (plus e f) d m alt known small fits sees =
       let k = and_parts (covers names e) (covers names f) known in
-      both_run hash valid 0x93 Add (formula_ops names d e) (formula_ops names (d + 1) f) (value lens e) (value lens f) m alt refl (omega (arith, value_bounded lens short e)) (omega (arith, value_bounded lens short f))
+      both_run hash valid 0x93 Add (formula_ops names d e) (formula_ops names (d + 1) f) (value lens e) (value lens f) m alt refl
+      (omega (arith, value_bounded lens short e)) (omega (arith, value_bounded lens short f))
       (formula_runs e d m alt k.0 (omega arith) (omega arith) sees)
       (formula_runs f (d + 1) _ alt k.1 (omega arith) (omega arith) (deeper names lens d m _ sees))
   formula_runs (minus e f) d m alt known small fits sees =
       let k = and_parts (covers names e) (covers names f) known in
-      both_run hash valid 0x94 Sub (formula_ops names d e) (formula_ops names (d + 1) f) (value lens e) (value lens f) m alt refl (omega (arith, value_bounded lens short e)) (omega (arith, value_bounded lens short f))
+      both_run hash valid 0x94 Sub (formula_ops names d e) (formula_ops names (d + 1) f) (value lens e) (value lens f) m alt refl
+      (omega (arith, value_bounded lens short e)) (omega (arith, value_bounded lens short f))
       (formula_runs e d m alt k.0 (omega arith) (omega arith) sees)
       (formula_runs f (d + 1) _ alt k.1 (omega arith) (omega arith) (deeper names lens d m _ sees))
 
   -- a comparison of two formulas
-  compared : (c : ℕ) (b : binaries.Binary) (e f : Expr) (d : ℕ) (m alt : List Item) → opcode_of c ≡ Some (Binary b) → (covers names e && covers names f) ≡ true → (nat_le (bound e) 2147483647 && nat_le (bound f) 2147483647) ≡ true → d + (formula_operations e + formula_operations f + 1) + length names ≤ 2147483647 → Sees names lens d m → free_run hash valid (formula_ops names d e ++ (formula_ops names (d + 1) f ++ Code c ∷ [])) (stacks m alt) ≡ Some (stacks (item_of_number (result_of b (value lens e) (value lens f)) ∷ m) alt)
+  compared : (c : ℕ) (b : binaries.Binary) (e f : Expr) (d : ℕ) (m alt : List Item) → opcode_of c ≡ Some (Binary b)
+      → (covers names e && covers names f) ≡ true → (nat_le (bound e) 2147483647 && nat_le (bound f) 2147483647) ≡ true
+      → d + (formula_operations e + formula_operations f + 1) + length names ≤ 2147483647 → Sees names lens d m
+      → free_run hash valid (formula_ops names d e ++ (formula_ops names (d + 1) f ++ Code c ∷ [])) (stacks m alt)
+      ≡ Some (stacks (item_of_number (result_of b (value lens e) (value lens f)) ∷ m) alt)
   compared c b e f d m alt is known small fits sees =
       let k = and_parts (covers names e) (covers names f) known in
       let s = and_parts (nat_le (bound e) 2147483647) (nat_le (bound f) 2147483647) small in
       let s0 = within_of_test (bound e) 2147483647 s.0 in
       let s1 = within_of_test (bound f) 2147483647 s.1 in
-      both_run hash valid c b (formula_ops names d e) (formula_ops names (d + 1) f) (value lens e) (value lens f) m alt is (omega (arith, s0, value_bounded lens short e)) (omega (arith, s1, value_bounded lens short f))
+      both_run hash valid c b (formula_ops names d e) (formula_ops names (d + 1) f) (value lens e) (value lens f) m alt is
+      (omega (arith, s0, value_bounded lens short e)) (omega (arith, s1, value_bounded lens short f))
       (formula_runs e d m alt k.0 s0 (omega arith) sees)
       (formula_runs f (d + 1) _ alt k.1 s1 (omega arith) (deeper names lens d m _ sees))
 
@@ -90,7 +100,9 @@ module _ (hash : Item → Item) (valid : Item → Item → Bool) (names : List (
   not_of_bool true = refl
   not_of_bool false = refl
 
-  pub test_runs : (p : Pred) (d : ℕ) (m alt : List Item) → covers_test names p ≡ true → is_bounded p ≡ true → d + test_operations p + length names ≤ 2147483647 → Sees names lens d m → free_run hash valid (test_ops names d p) (stacks m alt) ≡ Some (stacks (item_of_number (number_of_bool (holds lens p)) ∷ m) alt)
+  pub test_runs : (p : Pred) (d : ℕ) (m alt : List Item) → covers_test names p ≡ true → is_bounded p ≡ true
+      → d + test_operations p + length names ≤ 2147483647 → Sees names lens d m → free_run hash valid (test_ops names d p) (stacks m alt)
+      ≡ Some (stacks (item_of_number (number_of_bool (holds lens p)) ∷ m) alt)
   test_runs always d m alt known small fits sees = refl
   test_runs (negation p) d m alt known small fits sees =
       goes_on hash valid (test_ops names d p) _ _ _ (test_runs p d m alt known small (omega arith) sees)
@@ -98,7 +110,9 @@ module _ (hash : Item → Item) (valid : Item → Item → Bool) (names : List (
   test_runs (both p q) d m alt known small fits sees =
       let k = and_parts (covers_test names p) (covers_test names q) known in
       let s = and_parts (is_bounded p) (is_bounded q) small in
-      rw (← and_of (holds lens p) (holds lens q)) (both_run hash valid 0x9a BoolAnd (test_ops names d p) (test_ops names (d + 1) q) (number_of_bool (holds lens p)) (number_of_bool (holds lens q)) m alt refl (bool_small _) (bool_small _)
+      rw (← and_of (holds lens p) (holds lens q))
+      (both_run hash valid 0x9a BoolAnd (test_ops names d p) (test_ops names (d + 1) q) (number_of_bool (holds lens p))
+      (number_of_bool (holds lens q)) m alt refl (bool_small _) (bool_small _)
       (test_runs p d m alt k.0 s.0 (omega arith) sees)
       (test_runs q (d + 1) _ alt k.1 s.1 (omega arith) (deeper names lens d m _ sees)))
   test_runs (equal e f) d m alt known small fits sees = compared 0x9c NumEqual e f d m alt refl known small fits sees

@@ -21,7 +21,8 @@ abbrev pub free_run : (Item → Item) → (Item → Item → Bool) → List Op �
 free_run hash valid [] s = Some s
 free_run hash valid (op ∷ ops) s = option_and_then (free_run hash valid ops) (free_act hash valid op s)
 
-pub and_then_assoc : {X Y Z : Type 0} (f : Y → Option Z) (g : X → Option Y) (o : Option X) → option_and_then f (option_and_then g o) ≡ option_and_then (λ x. option_and_then f (g x)) o
+pub and_then_assoc : {X Y Z : Type 0} (f : Y → Option Z) (g : X → Option Y) (o : Option X) → option_and_then f (option_and_then g o)
+    ≡ option_and_then (λ x. option_and_then f (g x)) o
 and_then_assoc f g None = refl
 and_then_assoc f g (Some x) = refl
 
@@ -42,7 +43,8 @@ module _ (hash : Item → Item) (valid : Item → Item → Bool) where
   free_run-append [] ys s = refl
   free_run-append (op ∷ xs) ys s =
       let ih = λ (t : Stacks). free_run-append xs ys t in
-      ap (λ (f : Stacks → Option Stacks). option_and_then f (free_act hash valid op s)) (λ i t. ih t i) ∙ sym (and_then_assoc (free_run hash valid ys) (free_run hash valid xs) (free_act hash valid op s))
+      ap (λ (f : Stacks → Option Stacks). option_and_then f (free_act hash valid op s)) (λ i t. ih t i)
+      ∙ sym (and_then_assoc (free_run hash valid ys) (free_run hash valid xs) (free_act hash valid op s))
 
   -- operations that are known to lead somewhere, and others after them
   pub goes_on : (xs ys : List Op) (s t : Stacks) → free_run hash valid xs s ≡ Some t → free_run hash valid (xs ++ ys) s ≡ free_run hash valid ys t
@@ -51,15 +53,22 @@ module _ (hash : Item → Item) (valid : Item → Item → Bool) where
   pub push_runs : (n : ℕ) (m alt : List Item) → free_act hash valid (push_number (pos n)) (stacks m alt) ≡ Some (stacks (item_of_number (pos n) ∷ m) alt)
   push_runs n m alt = by_zero (n == 0) refl
     where
-      by_small : (b : Bool) → (n == 0) ≡ false → nat_le n 16 ≡ b → free_act hash valid (if b then Code (80 + n) else Push (item_of_number (pos n))) (stacks m alt) ≡ Some (stacks (item_of_number (pos n) ∷ m) alt)
+      by_small : (b : Bool) → (n == 0) ≡ false → nat_le n 16 ≡ b
+          → free_act hash valid (if b then Code (80 + n) else Push (item_of_number (pos n))) (stacks m alt) ≡ Some (stacks (item_of_number (pos n) ∷ m) alt)
       by_small true h k = rw (small_code n h k)
       by_small false h k = refl
 
-      by_zero : (b : Bool) → (n == 0) ≡ b → free_act hash valid (if b then Push [] else (if nat_le n 16 then Code (80 + n) else Push (item_of_number (pos n)))) (stacks m alt) ≡ Some (stacks (item_of_number (pos n) ∷ m) alt)
+      by_zero : (b : Bool) → (n == 0) ≡ b → free_act hash valid
+          (if b then Push [] else (if nat_le n 16 then Code (80 + n) else Push (item_of_number (pos n)))) (stacks m alt)
+          ≡ Some (stacks (item_of_number (pos n) ∷ m) alt)
       by_zero true h = let e : n ≡ 0 = grind arith in rw (e, zero_item)
       by_zero false h = by_small (nat_le n 16) h refl
 
   -- two numbers and an operation on them
-  pub both_run : (c : ℕ) (b : binaries.Binary) (xs ys : List Op) (x y : ℤ) (m alt : List Item) → opcode_of c ≡ Some (Binary b) → size_of_number x ≤ 2147483647 → size_of_number y ≤ 2147483647 → free_run hash valid xs (stacks m alt) ≡ Some (stacks (item_of_number x ∷ m) alt) → free_run hash valid ys (stacks (item_of_number x ∷ m) alt) ≡ Some (stacks (item_of_number y ∷ (item_of_number x ∷ m)) alt) → free_run hash valid (xs ++ (ys ++ Code c ∷ [])) (stacks m alt) ≡ Some (stacks (item_of_number (result_of b x y) ∷ m) alt)
+  pub both_run : (c : ℕ) (b : binaries.Binary) (xs ys : List Op) (x y : ℤ) (m alt : List Item) → opcode_of c ≡ Some (Binary b)
+      → size_of_number x ≤ 2147483647 → size_of_number y ≤ 2147483647 → free_run hash valid xs (stacks m alt)
+      ≡ Some (stacks (item_of_number x ∷ m) alt) → free_run hash valid ys (stacks (item_of_number x ∷ m) alt)
+      ≡ Some (stacks (item_of_number y ∷ (item_of_number x ∷ m)) alt) → free_run hash valid (xs ++ (ys ++ Code c ∷ [])) (stacks m alt)
+      ≡ Some (stacks (item_of_number (result_of b x y) ∷ m) alt)
   both_run c b xs ys x y m alt is sx sy hx hy =
       goes_on xs (ys ++ Code c ∷ []) _ _ hx ∙ goes_on ys (Code c ∷ []) _ _ hy ∙ rw (is, number_again x sx, number_again y sy)

@@ -34,11 +34,13 @@ test_operations_are names d (both p q) = omega (arith, test_operations_are names
 test_operations_are names d (equal e f) = omega (arith, formula_operations_are names d e, formula_operations_are names (d + 1) f)
 test_operations_are names d (less e f) = omega (arith, formula_operations_are names d e, formula_operations_are names (d + 1) f)
 
-secrets_bytes_are : (hashes : List (List ℕ × List ℕ)) (names : List (List ℕ)) (test : Pred) → secrets_bytes names (map (digest_of hashes) names) test ≡ (reveals_size names test).bytes
+secrets_bytes_are : (hashes : List (List ℕ × List ℕ)) (names : List (List ℕ)) (test : Pred)
+    → secrets_bytes names (map (digest_of hashes) names) test ≡ (reveals_size names test).bytes
 secrets_bytes_are hashes [] test = refl
 secrets_bytes_are hashes (a ∷ names) test = omega (arith, length-map names (digest_of hashes), test_bytes_are (a ∷ names) 0 test)
 
-secrets_operations_are : (hashes : List (List ℕ × List ℕ)) (names : List (List ℕ)) (test : Pred) → secrets_operations (map (digest_of hashes) names) test ≡ (reveals_size names test).operations
+secrets_operations_are : (hashes : List (List ℕ × List ℕ)) (names : List (List ℕ)) (test : Pred)
+    → secrets_operations (map (digest_of hashes) names) test ≡ (reveals_size names test).operations
 secrets_operations_are hashes [] test = refl
 secrets_operations_are hashes (a ∷ names) test = omega (arith, length-map names (digest_of hashes), test_operations_are (a ∷ names) 0 test)
 
@@ -49,11 +51,13 @@ module _ (people : ℕ) (keys : ℕ → List (List ℕ)) (hashes : List (List �
   branch_operations_are : (i : ℕ) (b : term.Guarded) → branch_operations (demands_of (core b) (keys i) hashes) ≡ (branch_size people b).operations
   branch_operations_are i b = omega (arith, one_each i, secrets_operations_are hashes (reveals_of (core b)) (test_of (core b)))
 
-  some_bytes_are : (i : ℕ) (b : term.Guarded) (bs : Contract) → cost_bytes (demands_from keys hashes i (b ∷ branches bs)) ≡ (branch_size people b).bytes + (later_size people bs).bytes
+  some_bytes_are : (i : ℕ) (b : term.Guarded) (bs : Contract) → cost_bytes (demands_from keys hashes i (b ∷ branches bs))
+      ≡ (branch_size people b).bytes + (later_size people bs).bytes
   some_bytes_are i b no_branch = omega (arith, branch_bytes_are i b)
   some_bytes_are i b (branch c cs) = omega (arith, branch_bytes_are i b, some_bytes_are (i + 1) c cs)
 
-  some_operations_are : (i : ℕ) (b : term.Guarded) (bs : Contract) → cost_operations (demands_from keys hashes i (b ∷ branches bs)) ≡ (branch_size people b).operations + (later_size people bs).operations
+  some_operations_are : (i : ℕ) (b : term.Guarded) (bs : Contract) → cost_operations (demands_from keys hashes i (b ∷ branches bs))
+      ≡ (branch_size people b).operations + (later_size people bs).operations
   some_operations_are i b no_branch = omega (arith, branch_operations_are i b)
   some_operations_are i b (branch c cs) = omega (arith, branch_operations_are i b, some_operations_are (i + 1) c cs)
 

@@ -6,11 +6,11 @@ use Rattle.spec_compiler.specs.Keyed.Keys.{Keys}
 use Rattle.spec_compiler.specs.Keyed.Instance.{Instance}
 use Rattle.spec_compiler.specs.Keyed.Endorsements.{Need, needed, is_met, all_met, is_endorsed, missing_endorsement}
 
--- the book misses this one of what is wanted, and has all that stands before it
-pub record IsFirstMissing (book : List Pair) (wanted : List Need) (need : Need) : Type 0 where
+-- the book misses this one of what is needed, and has all that stands before it
+pub record IsFirstMissing (book : List Pair) (required : List Need) (need : Need) : Type 0 where
   pub earlier : List Need
   pub later : List Need
-  pub stands : wanted ≡ earlier ++ need ∷ later
+  pub stands : required ≡ earlier ++ need ∷ later
   pub missing : is_met book need ≡ false
   pub met : all_met book earlier ≡ true
 

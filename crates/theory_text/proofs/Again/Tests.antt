@@ -29,7 +29,8 @@ some_depth (length_of x) = omega arith
 some_depth (plus e f) = omega arith
 some_depth (minus e f) = omega arith
 
-formula_again : (a : Expr) (d : ℕ) (t rest : List Lexeme) → SpellsFormula t a → is_readable_formula a ≡ true → formula_depth a ≤ d → formula_at d (t ++ rest) ≡ Ok (a, rest)
+formula_again : (a : Expr) (d : ℕ) (t rest : List Lexeme) → SpellsFormula t a → is_readable_formula a ≡ true → formula_depth a ≤ d
+    → formula_at d (t ++ rest) ≡ Ok (a, rest)
 unfolding formula_at constant_at length_at
 formula_again a zero t rest l h le = let k = some_depth a in absurd (omega (arith, k))
 formula_again (constant n) (suc d) t rest l h le = ap (λ (u : List Lexeme). formula_at (suc d) (u ++ rest)) l ∙ rw h refl
@@ -65,7 +66,9 @@ compared_at d (keyword word.Not ∷ te) u e l = absurd (formula_first (keyword w
 compared_at d (symbol mark.LeftBracket ∷ te) u e l = absurd (formula_first (symbol mark.LeftBracket) te e l refl)
 compared_at d (c ∷ te) u e l = refl
 
-equal_again : (e f : Expr) (d : ℕ) (te tf rest : List Lexeme) → SpellsFormula te e → SpellsFormula tf f → (is_readable_formula e && is_readable_formula f) ≡ true → max (formula_depth e) (formula_depth f) + 1 ≤ suc d → comparison_at d (te ++ symbol mark.Equal ∷ (tf ++ rest)) ≡ Ok (equal e f, rest)
+equal_again : (e f : Expr) (d : ℕ) (te tf rest : List Lexeme) → SpellsFormula te e → SpellsFormula tf f
+    → (is_readable_formula e && is_readable_formula f) ≡ true → max (formula_depth e) (formula_depth f) + 1 ≤ suc d
+    → comparison_at d (te ++ symbol mark.Equal ∷ (tf ++ rest)) ≡ Ok (equal e f, rest)
 unfolding comparison_at
 equal_again e f d te tf rest l k h le =
     let m = max_parts (formula_depth e) (formula_depth f) d le in
@@ -73,7 +76,9 @@ equal_again e f d te tf rest l k h le =
     let two = formula_again f d tf rest k (and_right (is_readable_formula e) _ h) m.1 in
     rw (one, two) refl
 
-less_again : (e f : Expr) (d : ℕ) (te tf rest : List Lexeme) → SpellsFormula te e → SpellsFormula tf f → (is_readable_formula e && is_readable_formula f) ≡ true → max (formula_depth e) (formula_depth f) + 1 ≤ suc d → comparison_at d (te ++ symbol mark.Less ∷ (tf ++ rest)) ≡ Ok (less e f, rest)
+less_again : (e f : Expr) (d : ℕ) (te tf rest : List Lexeme) → SpellsFormula te e → SpellsFormula tf f
+    → (is_readable_formula e && is_readable_formula f) ≡ true → max (formula_depth e) (formula_depth f) + 1 ≤ suc d
+    → comparison_at d (te ++ symbol mark.Less ∷ (tf ++ rest)) ≡ Ok (less e f, rest)
 unfolding comparison_at
 less_again e f d te tf rest l k h le =
     let m = max_parts (formula_depth e) (formula_depth f) d le in
@@ -81,7 +86,8 @@ less_again e f d te tf rest l k h le =
     let two = formula_again f d tf rest k (and_right (is_readable_formula e) _ h) m.1 in
     rw (one, two) refl
 
-deep_again : (p : Pred) (d : ℕ) (t rest : List Lexeme) → SpellsTest t p → has_readable_formulas p ≡ true → test_depth p ≤ d → test_at d (t ++ rest) ≡ Ok (p, rest)
+deep_again : (p : Pred) (d : ℕ) (t rest : List Lexeme) → SpellsTest t p → has_readable_formulas p ≡ true → test_depth p ≤ d
+    → test_at d (t ++ rest) ≡ Ok (p, rest)
 unfolding test_at
 deep_again p zero t rest l h le = let k = some_test_depth p in absurd (omega (arith, k))
 deep_again always (suc d) t rest l h le = ap (λ (u : List Lexeme). test_at (suc d) (u ++ rest)) l ∙ refl
@@ -103,4 +109,5 @@ deep_again (less e f) (suc d) t rest l h le =
 
 -- a predicate that is within the limits is read, whatever follows
 pub test_again : (p : Pred) (t rest : List Lexeme) → SpellsTest t p → is_readable_test p ≡ true → test_at most_depth (t ++ rest) ≡ Ok (p, rest)
-test_again p t rest l h = deep_again p most_depth t rest l (and_right (nat_le (test_depth p) most_depth) _ h) (leb-true (test_depth p) most_depth (and_left _ _ h))
+test_again p t rest l h =
+    deep_again p most_depth t rest l (and_right (nat_le (test_depth p) most_depth) _ h) (leb-true (test_depth p) most_depth (and_left _ _ h))

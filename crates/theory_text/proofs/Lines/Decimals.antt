@@ -62,7 +62,8 @@ zero_first b (c ∷ bytes) h k = absurd (not_zero (length bytes) k)
     not_zero : (n : ℕ) → (suc n == 0) ≡ true → ⊥
     not_zero n h = grind (arith, nat_tests)
 
-plain_by : (b : ℕ) (bytes : List ℕ) (t : Bool) → (b == 48) ≡ t → (if t then length bytes == 0 else is_digit b && list_all is_digit bytes) ≡ true → Plain (b ∷ bytes)
+plain_by : (b : ℕ) (bytes : List ℕ) (t : Bool) → (b == 48) ≡ t → (if t then length bytes == 0 else is_digit b && list_all is_digit bytes)
+    ≡ true → Plain (b ∷ bytes)
 plain_by b bytes true e h = zero_first b bytes e h
 plain_by b bytes false e h = record { digits = h; some = omega arith; zero_alone = λ i. absurd (no_48 b e i) }
   where

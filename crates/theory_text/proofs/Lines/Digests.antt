@@ -11,7 +11,7 @@ use Rattle.spec_text.specs.RunText.{digests_text}
 use Rattle.theory_text.proofs.Options.{some, some_is, came, onto_is, given_is}
 use Rattle.theory_text.proofs.Lines.Hex.{read_hex_is}
 use Rattle.theory_text.proofs.Lines.HexBack.{read_hex_back, hex_lacks, no_space, no_equal_sign}
-use Rattle.theory_text.proofs.Lines.Separated.{Lacks, lacks_append, lacks_front, part_last, part_more, parts_lack, each_spaced}
+use Rattle.theory_text.proofs.Lines.Separated.{Lacks, lacks_append, lacks_prefix, part_last, part_more, parts_lack, each_spaced}
 use Rattle.theory_text.proofs.Lines.PrintedWords.{name_word, two_is, two_joined}
 
 -- a word, and one that may stand in its place: as long, and with no space where the first has none
@@ -57,14 +57,15 @@ record NamedBack (word : List ℕ) (d : List ℕ × List ℕ) : Type 0 where
   read : named digest (digest_text d) ≡ some d
   twin : Twin word (digest_text d)
 
-named_again : (x bytes : List ℕ) → Lacks (λ b. b == 61) x → IsBytes bytes → a_name x ≡ some x → digest (hex_text bytes) ≡ some bytes → named digest (digest_text (x, bytes)) ≡ some (x, bytes)
+named_again : (x bytes : List ℕ) → Lacks (λ b. b == 61) x → IsBytes bytes → a_name x ≡ some x → digest (hex_text bytes) ≡ some bytes
+    → named digest (digest_text (x, bytes)) ≡ some (x, bytes)
 named_again x bytes lacks are name read =
     let parts : parts_of (λ b. b == 61) (x ++ 61 ∷ hex_text bytes) ≡ x ∷ hex_text bytes ∷ [] =
     part_more (λ b. b == 61) x 61 (hex_text bytes) lacks refl ∙ ap (λ (ps : List (List ℕ)). x ∷ ps) (part_last (λ b. b == 61) (hex_text bytes) (hex_lacks (λ b. b == 61) bytes no_equal_sign are)) in
     rw (parts, name, read) refl
 
 spaces_again : (a b bytes : List ℕ) → IsBytes bytes → Lacks is_space (a ++ 61 ∷ b) → Lacks is_space (a ++ 61 ∷ hex_text bytes)
-spaces_again a b bytes are h = lacks_append is_space a (61 ∷ hex_text bytes) (lacks_front is_space a (61 ∷ b) h) (refl, hex_lacks is_space bytes no_space are)
+spaces_again a b bytes are h = lacks_append is_space a (61 ∷ hex_text bytes) (lacks_prefix is_space a (61 ∷ b) h) (refl, hex_lacks is_space bytes no_space are)
 
 named_twin : (a b bytes : List ℕ) → digest b ≡ some bytes → Twin (a ++ 61 ∷ b) (a ++ 61 ∷ hex_text bytes)
 named_twin a b bytes h =
@@ -75,13 +76,15 @@ named_twin a b bytes h =
       lacks = spaces_again a b bytes (read_hex_is b bytes back.hex).bytes;
     }
 
-named_from : (word a b x bytes : List ℕ) → a ++ 61 ∷ b ≡ word → x ≡ a → Lacks (λ c. c == 61) a → a_name a ≡ some x → digest b ≡ some bytes → NamedBack word (x, bytes)
+named_from : (word a b x bytes : List ℕ) → a ++ 61 ∷ b ≡ word → x ≡ a → Lacks (λ c. c == 61) a → a_name a ≡ some x → digest b ≡ some bytes
+    → NamedBack word (x, bytes)
 named_from word a b x bytes whole same lacks name h =
     let back = digest_back b bytes h in
     let are = (read_hex_is b bytes back.hex).bytes in
     record {
       read = named_again x bytes (subst (Lacks (λ c. c == 61)) (sym same) lacks) are (ap a_name same ∙ name) back.read;
-      twin = subst (λ (w : List ℕ). Twin w (digest_text (x, bytes))) whole (subst (λ (y : List ℕ). Twin (a ++ 61 ∷ b) (y ++ 61 ∷ hex_text bytes)) (sym same) (named_twin a b bytes h));
+      twin = subst (λ (w : List ℕ). Twin w (digest_text (x, bytes))) whole
+          (subst (λ (y : List ℕ). Twin (a ++ 61 ∷ b) (y ++ 61 ∷ hex_text bytes)) (sym same) (named_twin a b bytes h));
     }
 
 named_back : (word : List ℕ) (d : List ℕ × List ℕ) → named digest word ≡ some d → NamedBack word d

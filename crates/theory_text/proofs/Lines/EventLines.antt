@@ -60,7 +60,8 @@ within_event : (count : ℕ) (o : Option Event) (e : Event) → event_within cou
 within_event count None e h = absurd (bad_says e h)
 within_event count (Some d) e h = let r = room_is count (nat_lt count most_events) d e refl h in (r.room, ap some r.same)
 
-spelled_is : (parties : List (List ℕ)) (count : ℕ) (words : List (List ℕ)) (e : Event) → event_words parties count words ≡ an_event e → Spelled parties count words e
+spelled_is : (parties : List (List ℕ)) (count : ℕ) (words : List (List ℕ)) (e : Event) → event_words parties count words ≡ an_event e
+    → Spelled parties count words e
 spelled_is parties count [] e h = absurd (empty_says e h)
 spelled_is parties count (w ∷ ws) e h =
     let p = within_event count (event_of parties (w ∷ ws)) e h in
@@ -71,7 +72,8 @@ spelled_is parties count (w ∷ ws) e h =
 room_again : (count : ℕ) (e : Event) → nat_lt count most_events ≡ true → event_within count (some e) ≡ an_event e
 room_again count e h = rw h refl
 
-words_again : (parties : List (List ℕ)) (count : ℕ) (words : List (List ℕ)) (e : Event) → event_of parties words ≡ some e → nat_lt count most_events ≡ true → event_words parties count words ≡ an_event e
+words_again : (parties : List (List ℕ)) (count : ℕ) (words : List (List ℕ)) (e : Event) → event_of parties words ≡ some e
+    → nat_lt count most_events ≡ true → event_words parties count words ≡ an_event e
 words_again parties count [] e h room = absurd (none_some e h)
 words_again parties count (w ∷ ws) e h room = ap (event_within count) h ∙ room_again count e room
 
@@ -81,7 +83,8 @@ not_longer text line le h = let n = short_line line h in grind (arith, nat_tests
 short_says : (text : List ℕ) (said : Line Event) → is_long text ≡ false → (if is_long text then over limits.Line else said) ≡ said
 short_says text said h = rw h refl
 
-line_again : (parties : List (List ℕ)) (count : ℕ) (line : List ℕ) (e : Event) → is_long line ≡ false → Spelled parties count (words_of line) e → Canonical parties (words_of line) e → event_of_line parties count (event_text e) ≡ an_event e
+line_again : (parties : List (List ℕ)) (count : ℕ) (line : List ℕ) (e : Event) → is_long line ≡ false
+    → Spelled parties count (words_of line) e → Canonical parties (words_of line) e → event_of_line parties count (event_text e) ≡ an_event e
 line_again parties count line e short is c =
     let long = twins_long (words_of line) c.again c.twins in
     let fits = spaced_length line c.again (omega (arith, long.count, is.some')) long.bytes long.count in

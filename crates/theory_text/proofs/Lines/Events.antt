@@ -30,8 +30,16 @@ pub record Canonical (parties words : List (List ℕ)) (e : Event) : Type 0 wher
 abbrev Said : List ℕ → List (List ℕ) → Event → Type 0
 Said name words e = event_text e ≡ spaced (name ∷ words)
 
-as_is : (parties words : List (List ℕ)) (word name : List ℕ) (e : Event) → bytes_eq word name ≡ true → event_of parties (word ∷ words) ≡ some e → Said name words e → Canonical parties (word ∷ words) e
-as_is parties words word name e same h text = record { again = word ∷ words; text = text ∙ ap (λ (w : List ℕ). spaced (w ∷ words)) (sym (same_bytes word name same)); read = h; twins = same_twins (word ∷ words) }
+as_is : (parties words : List (List ℕ)) (word name : List ℕ) (e : Event) → bytes_eq word name ≡ true → event_of parties (word ∷ words)
+    ≡ some e → Said name words e → Canonical parties (word ∷ words) e
+as_is parties words word name e same h text =
+    record {
+      again = word ∷ words;
+      text = text
+          ∙ ap (λ (w : List ℕ). spaced (w ∷ words)) (sym (same_bytes word name same));
+      read = h;
+      twins = same_twins (word ∷ words);
+    }
 
 -- what stands at the end of a line
 at_end : (xs word : List ℕ) → xs ≡ word → xs ≡ word ++ []
@@ -190,10 +198,12 @@ give_said parties (a ∷ ws) e h =
 -- ---- lines with digits that may be capital letters
 
 -- in place of the name itself a word that is the same
-named_first : (parties words : List (List ℕ)) (word name : List ℕ) (e : Event) → bytes_eq word name ≡ true → Canonical parties (name ∷ words) e → Canonical parties (word ∷ words) e
+named_first : (parties words : List (List ℕ)) (word name : List ℕ) (e : Event) → bytes_eq word name ≡ true
+    → Canonical parties (name ∷ words) e → Canonical parties (word ∷ words) e
 named_first parties words word name e same h = subst (λ (w : List ℕ). Canonical parties (w ∷ words) e) (sym (same_bytes word name same)) h
 
-commit_read : (parties again : List (List ℕ)) (k a p : List ℕ) (n : ℕ) (l : List (List ℕ × List ℕ)) → small k ≡ some n → one_of parties a ≡ some p → all_of (named digest) again ≡ some l → commit parties (k ∷ a ∷ again) ≡ some (events.Commit n p l)
+commit_read : (parties again : List (List ℕ)) (k a p : List ℕ) (n : ℕ) (l : List (List ℕ × List ℕ)) → small k ≡ some n → one_of parties a
+    ≡ some p → all_of (named digest) again ≡ some l → commit parties (k ∷ a ∷ again) ≡ some (events.Commit n p l)
 commit_read parties again k a p n l x y z = rw (x, y, z) refl
 
 commit_again : (parties words : List (List ℕ)) (e : Event) → commit parties words ≡ some e → Canonical parties (codes "commit" ∷ words) e
@@ -236,7 +246,8 @@ append_again parties (w ∷ []) e h =
     })
 append_again parties (w ∷ v ∷ ws) e h = absurd (none_some e h)
 
-sign_read : (parties : List (List ℕ)) (a l w p d : List ℕ) (m : Label) → one_of parties a ≡ some p → label l ≡ some m → digest w ≡ some d → sign parties (a ∷ l ∷ w ∷ []) ≡ some (events.Sign p m d)
+sign_read : (parties : List (List ℕ)) (a l w p d : List ℕ) (m : Label) → one_of parties a ≡ some p → label l ≡ some m → digest w ≡ some d
+    → sign parties (a ∷ l ∷ w ∷ []) ≡ some (events.Sign p m d)
 sign_read parties a l w p d m x y z = rw (x, y, z) refl
 
 sign_again : (parties words : List (List ℕ)) (e : Event) → sign parties words ≡ some e → Canonical parties (codes "sign" ∷ words) e
@@ -261,7 +272,8 @@ sign_again parties (a ∷ l ∷ w ∷ v ∷ ws) e h = absurd (none_some e h)
 
 -- ---- all events
 
-event_by_again : (parties : List (List ℕ)) (word : List ℕ) (words : List (List ℕ)) (e : Event) → event_by word parties words ≡ some e → Canonical parties (word ∷ words) e
+event_by_again : (parties : List (List ℕ)) (word : List ℕ) (words : List (List ℕ)) (e : Event) → event_by word parties words ≡ some e
+    → Canonical parties (word ∷ words) e
 event_by_again parties word words e h =
     let P = Canonical parties (word ∷ words) e in
     by_test (bytes_eq word (codes "advertise")) _ _ (some e) P h (λ w x. as_is parties words word _ e w h (advertise_said parties words e x)) (λ h1.

@@ -84,16 +84,38 @@ record LineOf (words : List (List ℕ)) : Type 0 where
   short : length (spaced words) ≤ most_line_bytes
 
 party_known : LineWord (codes "party")
-party_known = record { is = record { some = omega arith; lacks = (refl, (refl, (refl, (refl, (refl, tt))))) }; ends = (refl, (refl, (refl, (refl, (refl, tt))))) }
+party_known =
+    record { is = record { some = omega arith; lacks = (refl, (refl, (refl, (refl, (refl, tt))))) }; ends = (refl, (refl, (refl, (refl, (refl, tt))))) }
 
 honest_known : LineWord (codes "honest")
-honest_known = record { is = record { some = omega arith; lacks = (refl, (refl, (refl, (refl, (refl, (refl, tt)))))) }; ends = (refl, (refl, (refl, (refl, (refl, (refl, tt)))))) }
+honest_known = record {
+  is = record {
+    some = omega
+        arith;
+    lacks = (refl, (refl, (refl, (refl, (refl, (refl, tt))))));
+  };
+  ends = (refl, (refl, (refl, (refl, (refl, (refl, tt))))));
+}
 
 secret_known : LineWord (codes "secret")
-secret_known = record { is = record { some = omega arith; lacks = (refl, (refl, (refl, (refl, (refl, (refl, tt)))))) }; ends = (refl, (refl, (refl, (refl, (refl, (refl, tt)))))) }
+secret_known = record {
+  is = record {
+    some = omega
+        arith;
+    lacks = (refl, (refl, (refl, (refl, (refl, (refl, tt))))));
+  };
+  ends = (refl, (refl, (refl, (refl, (refl, (refl, tt))))));
+}
 
 deposit_known : LineWord (codes "deposit")
-deposit_known = record { is = record { some = omega arith; lacks = (refl, (refl, (refl, (refl, (refl, (refl, (refl, tt))))))) }; ends = (refl, (refl, (refl, (refl, (refl, (refl, (refl, tt))))))) }
+deposit_known = record {
+  is = record {
+    some = omega
+        arith;
+    lacks = (refl, (refl, (refl, (refl, (refl, (refl, (refl, tt)))))));
+  };
+  ends = (refl, (refl, (refl, (refl, (refl, (refl, (refl, tt)))))));
+}
 
 party_line_of : (a : List ℕ) → is_name a ≡ true → LineOf (party_words a)
 party_line_of a h = record { all = (party_known, (name_line a h, tt)); short = omega (arith, length-append a [], name_short a h) }
@@ -104,7 +126,14 @@ honest_line_of a h = record { all = (honest_known, (name_line a h, tt)); short =
 deposit_line_of : (a : List ℕ) (v : ℕ) → is_name a ≡ true → v < 2 ^ 64 → LineOf (deposit_words (a, v))
 deposit_line_of a v h less = record {
   all = (deposit_known, (name_line a h, (decimal_line v less, tt)));
-  short = omega (arith, length-append a (32 ∷ (decimal v ++ [])), length-append (decimal v) [], name_short a h, length-decimal-le 20 v (omega arith) (omega (arith, less)) less);
+  short = omega (
+    arith,
+    length-append a (32 ∷ (decimal v ++ [])),
+    length-append (decimal v) [],
+    name_short a h,
+    length-decimal-le 20 v
+        (omega arith) (omega (arith, less)) less,
+  );
 }
 
 line_short : (line : List ℕ) → length line ≤ most_line_bytes → is_long line ≡ false
@@ -116,7 +145,8 @@ short_line false said e = refl
 
 -- it says what its words say
 line_words : (h : Header) (words : List (List ℕ)) → LineOf words → header_line h (spaced words) ≡ header_words h words
-line_words h words l = short_line (is_long (spaced words)) (header_words h (words_of (spaced words))) (line_short (spaced words) l.short) ∙ ap (header_words h) (spaced_words words (line_is words l.all))
+line_words h words l = short_line (is_long (spaced words)) (header_words h (words_of (spaced words))) (line_short (spaced words) l.short)
+    ∙ ap (header_words h) (spaced_words words (line_is words l.all))
 
 says_within : (ok room : Bool) (limit : RunLimit) (h : Header) → ok ≡ true → room ≡ true → spelled_within ok room limit h ≡ says h
 says_within ok room limit h p q = rw (p, q) refl
@@ -128,10 +158,12 @@ record Reached (h k : Header) (n : ℕ) (lines rest : List (List ℕ)) : Type 0 
   number : ℕ
   read : read_header h n lines ≡ read_header k number rest
 
-one_read : (h k : Header) (n : ℕ) (line : List ℕ) (lines : List (List ℕ)) → header_line h line ≡ says k → read_header h n (line ∷ lines) ≡ read_header k (n + 1) lines
+one_read : (h k : Header) (n : ℕ) (line : List ℕ) (lines : List (List ℕ)) → header_line h line ≡ says k → read_header h n (line ∷ lines)
+    ≡ read_header k (n + 1) lines
 one_read h k n line lines e = ap (λ (said : Line Header). header_step h n lines said (read_header (kept h said) (n + 1) lines)) e
 
-many_read : {X : Type 0} (into : List X → Header) (line : X → List ℕ) (P : List X → X → Type 0) → ((done : List X) (x : X) → P done x → header_line (into done) (line x) ≡ says (into (done ++ x ∷ [])))
+many_read : {X : Type 0} (into : List X → Header) (line : X → List ℕ) (P : List X → X → Type 0)
+    → ((done : List X) (x : X) → P done x → header_line (into done) (line x) ≡ says (into (done ++ x ∷ [])))
     → (done todo : List X) → AllNew P done todo → (n : ℕ) (rest : List (List ℕ)) → Reached (into done) (into (done ++ todo)) n (map line todo ++ rest) rest
 many_read into line P f done [] h n rest = record { number = n; read = ap (λ (xs : List _). read_header (into xs) n rest) (sym (append-nil done)) }
 many_read into line P f done (x ∷ xs) h n rest =
@@ -141,13 +173,15 @@ many_read into line P f done (x ∷ xs) h n rest =
 
 -- ---- the parts of a header in turn
 
-party_says : (done : List (List ℕ)) (a : List ℕ) → NewParty done a → header_line (record no_header { parties = done }) (spaced (party_words a)) ≡ says (record no_header { parties = done ++ a ∷ [] })
+party_says : (done : List (List ℕ)) (a : List ℕ) → NewParty done a
+    → header_line (record no_header { parties = done }) (spaced (party_words a)) ≡ says (record no_header { parties = done ++ a ∷ [] })
 party_says done a p = line_words _ (party_words a) (party_line_of a (and_left _ _ p.spelled)) ∙ says_within _ _ limits.Parties _ p.spelled p.room
 
 abbrev with_honest : Header → List (List ℕ) → Header
 with_honest h honest = record no_header { parties = h.parties; honest = honest }
 
-honest_says : (h : Header) (done : List (List ℕ)) (a : List ℕ) → NewHonest h.parties done a → header_line (with_honest h done) (spaced (honest_words a)) ≡ says (with_honest h (done ++ a ∷ []))
+honest_says : (h : Header) (done : List (List ℕ)) (a : List ℕ) → NewHonest h.parties done a
+    → header_line (with_honest h done) (spaced (honest_words a)) ≡ says (with_honest h (done ++ a ∷ []))
 honest_says h done a p = line_words (with_honest h done) (honest_words a) (honest_line_of a p.named) ∙ says_within _ _ limits.Parties _ p.spelled refl
 
 abbrev with_secrets : Header → List HeldSecret → Header
@@ -155,11 +189,22 @@ with_secrets h secrets = record no_header { parties = h.parties; honest = h.hone
 
 secret_line_of : (honest : List (List ℕ)) (done : List HeldSecret) (s : HeldSecret) → NewSecret honest done s → LineOf (secret_words s)
 secret_line_of honest done s p = record {
-  all = (secret_known, (name_line s.party p.named, (name_line s.name (and_right (is_among s.party honest) _ (and_left _ _ p.spelled)), (hex_line s.bytes p.bytes' p.read, tt))));
+  all = (
+    secret_known,
+    (
+      name_line s.party p.named,
+      (
+        name_line s.name
+            (and_right (is_among s.party honest) _ (and_left _ _ p.spelled)),
+        (hex_line s.bytes p.bytes' p.read, tt),
+      ),
+    ),
+  );
   short = p.short;
 }
 
-secret_says : (h : Header) (done : List HeldSecret) (s : HeldSecret) → NewSecret h.honest done s → header_line (with_secrets h done) (spaced (secret_words s)) ≡ says (with_secrets h (done ++ s ∷ []))
+secret_says : (h : Header) (done : List HeldSecret) (s : HeldSecret) → NewSecret h.honest done s
+    → header_line (with_secrets h done) (spaced (secret_words s)) ≡ says (with_secrets h (done ++ s ∷ []))
 secret_says h done s p =
     line_words (with_secrets h done) (secret_words s) (secret_line_of h.honest done s p)
     ∙ (ap (secret_of (with_secrets h done) s.party s.name) p.read ∙ says_within _ _ limits.Secrets _ p.spelled p.room)
@@ -167,7 +212,8 @@ secret_says h done s p =
 abbrev with_deposits : Header → List (List ℕ × ℕ) → Header
 with_deposits h deposits = record { parties = h.parties; honest = h.honest; secrets = h.secrets; deposits = deposits }
 
-deposit_says : (h : Header) (done : List (List ℕ × ℕ)) (d : List ℕ × ℕ) → NewDeposit h.parties done d → header_line (with_deposits h done) (spaced (deposit_words d)) ≡ says (with_deposits h (done ++ d ∷ []))
+deposit_says : (h : Header) (done : List (List ℕ × ℕ)) (d : List ℕ × ℕ) → NewDeposit h.parties done d
+    → header_line (with_deposits h done) (spaced (deposit_words d)) ≡ says (with_deposits h (done ++ d ∷ []))
 deposit_says h done d p =
     line_words (with_deposits h done) (deposit_words d) (deposit_line_of d.0 d.1 p.named (number_less (2 ^ 64) (decimal d.1) d.1 p.read))
     ∙ (ap (deposit_of (with_deposits h done) d.0) p.read ∙ says_within _ _ limits.Deposits _ p.spelled p.room)
@@ -187,9 +233,12 @@ all_read h is =
 
 -- ---- no byte of a line ends it
 
-lines_end : {X : Type 0} (words : X → List (List ℕ)) (P : List X → X → Type 0) → ((done : List X) (x : X) → P done x → LineOf (words x)) → (done xs : List X) (rest : List (List ℕ)) → AllNew P done xs → AllByRecursion (Lacks ends_line) rest → AllByRecursion (Lacks ends_line) (map (λ x. spaced (words x)) xs ++ rest)
+lines_end : {X : Type 0} (words : X → List (List ℕ)) (P : List X → X → Type 0) → ((done : List X) (x : X) → P done x → LineOf (words x))
+    → (done xs : List X) (rest : List (List ℕ)) → AllNew P done xs → AllByRecursion (Lacks ends_line) rest
+    → AllByRecursion (Lacks ends_line) (map (λ x. spaced (words x)) xs ++ rest)
 lines_end words P f done [] rest h r = r
-lines_end words P f done (x ∷ xs) rest h r = (spaced_ends (words x) (line_ends (words x) (f done x h.0).all), lines_end words P f (done ++ x ∷ []) xs rest h.1 r)
+lines_end words P f done (x ∷ xs) rest h r =
+    (spaced_ends (words x) (line_ends (words x) (f done x h.0).all), lines_end words P f (done ++ x ∷ []) xs rest h.1 r)
 
 header_lines_end : (h : Header) → IsRead h → AllByRecursion (Lacks ends_line) (header_lines h)
 header_lines_end h is =
@@ -209,7 +258,8 @@ rest_is (Err fault) run f h = absurd (fault_run fault run h)
 rest_is (Ok x) run f h = subst IsRead (header_is x.0 (read_events x.0.parties 0 x.2 x.1) run h) (f x refl)
 
 run_read : (text : List ℕ) (run : Run) → read_run text ≡ a_run run → IsRead run.header
-run_read text run h = rest_is (read_header no_header 1 (lines_of text)) run (λ x e. header_keeps IsRead (λ g k line. line_keeps g k line) no_header 1 (lines_of text) x no_header_read e) h
+run_read text run h = rest_is (read_header no_header 1 (lines_of text)) run
+    (λ x e. header_keeps IsRead (λ g k line. line_keeps g k line) no_header 1 (lines_of text) x no_header_read e) h
 
 pub printed_header : PrintedHeaderTheorem
 printed_header text run h =

@@ -36,7 +36,8 @@ pub record IsHex (digits said : List ℕ) : Type 0 where
   pub bytes : IsBytes said
   pub size : 2 * length said ≡ length digits
 
-onto_hex : (x : Option ℕ) (xs : Option (List ℕ)) (digits bytes : List ℕ) (c d : ℕ) → onto x xs ≡ Some bytes → ((n : ℕ) → x ≡ Some n → n < 256) → ((ys : List ℕ) → xs ≡ Some ys → IsHex digits ys) → IsHex (c ∷ d ∷ digits) bytes
+onto_hex : (x : Option ℕ) (xs : Option (List ℕ)) (digits bytes : List ℕ) (c d : ℕ) → onto x xs ≡ Some bytes
+    → ((n : ℕ) → x ≡ Some n → n < 256) → ((ys : List ℕ) → xs ≡ Some ys → IsHex digits ys) → IsHex (c ∷ d ∷ digits) bytes
 onto_hex (Some n) (Some ys) digits bytes c d h f g =
     let t = g ys refl in
     subst (IsHex (c ∷ d ∷ digits)) (some_is (n ∷ ys) bytes h) (record { bytes = bytes_cons n ys (f n refl) t.bytes; size = omega (arith, t.size) })

@@ -37,7 +37,8 @@ marked None mark digits more bytes ss h f = f mark more ss h
 marked (Some next) mark digits more bytes ss h f = onto_all IsStep (step mark digits) (steps_from next [] bytes) ss h (step_is mark digits) (f next [])
 
 steps_are : (bytes : List ℕ) (mark : Bool) (digits : List ℕ) (ss : List PathStep) → steps_from mark digits bytes ≡ some ss → AllByRecursion IsStep ss
-steps_are [] mark digits ss h = onto_all IsStep (step mark digits) (some []) ss h (step_is mark digits) (λ ts e. subst (AllByRecursion IsStep) (some_is [] ts e) tt)
+steps_are [] mark digits ss h =
+    onto_all IsStep (step mark digits) (some []) ss h (step_is mark digits) (λ ts e. subst (AllByRecursion IsStep) (some_is [] ts e) tt)
 steps_are (b ∷ bytes) mark digits ss h = marked (step_mark b) mark digits (digits ++ b ∷ []) bytes ss h (steps_are bytes)
 
 all_steps : (bytes : List ℕ) (ss : List PathStep) → steps bytes ≡ some ss → AllByRecursion IsStep ss

@@ -32,10 +32,12 @@ lined lines = flat_map (λ l. l ++ newline) lines
 
 pub lines_again : (lines : List (List ℕ)) → AllByRecursion (Lacks ends_line) lines → lines_of (lined lines) ≡ lines
 lines_again [] h = refl
-lines_again (line ∷ lines) h = ap lines_of (append_assoc line newline (lined lines)) ∙ (line_feed line (lined lines) h.0 ∙ ap (λ (ls : List (List ℕ)). line ∷ ls) (lines_again lines h.1))
+lines_again (line ∷ lines) h =
+    ap lines_of (append_assoc line newline (lined lines)) ∙ (line_feed line (lined lines) h.0 ∙ ap (λ (ls : List (List ℕ)). line ∷ ls) (lines_again lines h.1))
 
 -- lines that are written one by one
-pub lined_map : {X : Type 0} (text line : X → List ℕ) → ((x : X) → text x ≡ line x ++ newline) → (xs : List X) (rest : List (List ℕ)) → flat_map text xs ++ lined rest ≡ lined (map line xs ++ rest)
+pub lined_map : {X : Type 0} (text line : X → List ℕ) → ((x : X) → text x ≡ line x ++ newline) → (xs : List X) (rest : List (List ℕ))
+    → flat_map text xs ++ lined rest ≡ lined (map line xs ++ rest)
 lined_map text line f [] rest = refl
 lined_map text line f (x ∷ xs) rest = append_assoc (text x) (flat_map text xs) (lined rest) ∙ (λ i. f x i ++ lined_map text line f xs rest i)
 
@@ -78,7 +80,11 @@ word_bytes : (x : List ℕ) → is_word x ≡ true → LineWord x
 word_bytes [] h = absurd cc
 word_bytes (b ∷ rest) h =
     let all = letter_name b rest h in
-    record { is = record { some = omega arith; lacks = all_lack is_space is_name_byte name_byte_space (b ∷ rest) all }; ends = all_lack ends_line is_name_byte name_byte_ends (b ∷ rest) all }
+    record {
+      is = record { some = omega arith; lacks = all_lack is_space is_name_byte name_byte_space (b ∷ rest) all };
+      ends = all_lack
+          ends_line is_name_byte name_byte_ends (b ∷ rest) all;
+    }
 
 pub name_line : (x : List ℕ) → is_name x ≡ true → LineWord x
 unfolding is_name
@@ -94,7 +100,11 @@ name_short x h = name_short_at (length x) (and_left _ _ (and_right (is_word x) _
 pub decimal_line : (n : ℕ) → n < 2 ^ 64 → LineWord (decimal n)
 decimal_line n h =
     let all = decimal-digits n h in
-    record { is = record { some = decimal_nonempty n h; lacks = all_lack is_space is_digit digit_space (decimal n) all }; ends = all_lack ends_line is_digit digit_ends (decimal n) all }
+    record {
+      is = record { some = decimal_nonempty n h; lacks = all_lack is_space is_digit digit_space (decimal n) all };
+      ends = all_lack
+          ends_line is_digit digit_ends (decimal n) all;
+    }
 
 digits_end_no_line : SparesDigits ends_line
 digits_end_no_line = spares_by ends_line (λ n h. grind (arith, nat_tests)) (λ n h k. grind (arith, nat_tests))
@@ -104,7 +114,14 @@ some_hex [] bytes h = absurd (none_some bytes h)
 some_hex (c ∷ cs) bytes h = omega arith
 
 pub hex_line : (bytes : List ℕ) → IsBytes bytes → read_hex (hex_text bytes) ≡ some bytes → LineWord (hex_text bytes)
-hex_line bytes are read = record { is = record { some = some_hex (hex_text bytes) bytes read; lacks = hex_lacks is_space bytes no_space are }; ends = hex_lacks ends_line bytes digits_end_no_line are }
+hex_line bytes are read = record {
+  is = record {
+    some = some_hex (hex_text bytes) bytes read;
+    lacks = hex_lacks is_space bytes no_space
+        are;
+  };
+  ends = hex_lacks ends_line bytes digits_end_no_line are;
+}
 
 pub line_is : (words : List (List ℕ)) → AllByRecursion LineWord words → AllByRecursion IsWord words
 line_is [] h = tt

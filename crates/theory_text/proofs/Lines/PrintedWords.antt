@@ -119,9 +119,11 @@ step_of_text false n = refl
 step_word : (mark : Bool) (digits : List ℕ) (s : PathStep) → step mark digits ≡ some s → step_text s ≡ mark_byte mark ∷ digits
 step_word mark digits s h =
     let c = came (small digits) (λ n. some (step_of mark n)) s h in
-    ap step_text (sym (some_is (step_of mark c.first) s c.then')) ∙ (step_of_text mark c.first ∙ ap (λ (ds : List ℕ). mark_byte mark ∷ ds) (small_word digits c.first c.is))
+    ap step_text (sym (some_is (step_of mark c.first) s c.then'))
+    ∙ (step_of_text mark c.first ∙ ap (λ (ds : List ℕ). mark_byte mark ∷ ds) (small_word digits c.first c.is))
 
-onto_steps : (mark : Bool) (digits rest : List ℕ) (later : Option (List PathStep)) (ss : List PathStep) → onto (step mark digits) later ≡ some ss → ((ts : List PathStep) → later ≡ some ts → flat_map step_text ts ≡ rest) → flat_map step_text ss ≡ mark_byte mark ∷ (digits ++ rest)
+onto_steps : (mark : Bool) (digits rest : List ℕ) (later : Option (List PathStep)) (ss : List PathStep) → onto (step mark digits) later
+    ≡ some ss → ((ts : List PathStep) → later ≡ some ts → flat_map step_text ts ≡ rest) → flat_map step_text ss ≡ mark_byte mark ∷ (digits ++ rest)
 onto_steps mark digits rest later ss h f =
     let o = onto_is (step mark digits) later ss h in
     let first = step_word mark digits o.first o.is in
@@ -137,7 +139,8 @@ marked (Some next) mark digits b bytes ss e h f =
     onto_steps mark digits (b ∷ bytes) (steps_from next [] bytes) ss h
     (λ ts k. f next [] ts k ∙ ap (λ (x : ℕ). x ∷ bytes) (sym (mark_is b next e).byte))
 
-steps_from_word : (bytes : List ℕ) (mark : Bool) (digits : List ℕ) (ss : List PathStep) → steps_from mark digits bytes ≡ some ss → flat_map step_text ss ≡ mark_byte mark ∷ (digits ++ bytes)
+steps_from_word : (bytes : List ℕ) (mark : Bool) (digits : List ℕ) (ss : List PathStep) → steps_from mark digits bytes ≡ some ss
+    → flat_map step_text ss ≡ mark_byte mark ∷ (digits ++ bytes)
 steps_from_word [] mark digits ss h = onto_steps mark digits [] (some []) ss h (λ ts k. ap (flat_map step_text) (sym (some_is [] ts k)))
 steps_from_word (b ∷ bytes) mark digits ss h = marked (step_mark b) mark digits b bytes ss refl h (steps_from_word bytes)
 
@@ -186,7 +189,8 @@ parts_label (kind ∷ contract ∷ place ∷ party ∷ []) l h =
     let second = small_word c.first d.first d.is ∙ sym g.same in
     let third = path_word place e.first e.is in
     let last = name_word party f.first f.is ∙ sym (append-nil party) in
-    ap label_text (sym (some_is (Branch d.first e.first f.first) l f.then')) ∙ branch_text d.first e.first f.first ∙ (λ i. first i ++ (58 ∷ (second i ++ (58 ∷ (third i ++ (58 ∷ last i))))))
+    ap label_text (sym (some_is (Branch d.first e.first f.first) l f.then')) ∙ branch_text d.first e.first f.first
+    ∙ (λ i. first i ++ (58 ∷ (second i ++ (58 ∷ (third i ++ (58 ∷ last i))))))
 parts_label (kind ∷ contract ∷ place ∷ party ∷ more ∷ rest) l h = absurd (none_some l h)
 
 pub label_word : (word : List ℕ) (l : Label) → label word ≡ some l → label_text l ≡ word

@@ -78,7 +78,8 @@ pub record IsRead (h : Header) : Type 0 where
   pub deposits' : AllNew (NewDeposit h.parties) [] h.deposits
 
 -- one of names is a name
-named_by : (a x : List ℕ) (xs : List (List ℕ)) (t : Bool) → bytes_eq x a ≡ t → is_name x ≡ true → (is_among a xs ≡ true → is_name a ≡ true) → (t || is_among a xs) ≡ true → is_name a ≡ true
+named_by : (a x : List ℕ) (xs : List (List ℕ)) (t : Bool) → bytes_eq x a ≡ t → is_name x ≡ true → (is_among a xs ≡ true → is_name a ≡ true)
+    → (t || is_among a xs) ≡ true → is_name a ≡ true
 named_by a x xs true e h f k = subst (λ (y : List ℕ). is_name y ≡ true) (same_bytes x a e) h
 named_by a x xs false e h f k = f k
 
@@ -88,17 +89,31 @@ named_among a (x ∷ xs) h k = named_by a x xs (bytes_eq x a) refl (and_left _ _
 
 -- ---- what a line adds
 
-with_party : (h : Header) (a : List ℕ) → IsRead h → (is_name a && not (is_among a h.parties)) ≡ true → nat_lt (length h.parties) most_parties ≡ true → IsRead (record h { parties = h.parties ++ a ∷ [] })
+with_party : (h : Header) (a : List ℕ) → IsRead h → (is_name a && not (is_among a h.parties)) ≡ true
+    → nat_lt (length h.parties) most_parties ≡ true → IsRead (record h { parties = h.parties ++ a ∷ [] })
 with_party h a is new room = record {
   party_names = all_push is_name h.parties a is.party_names (and_left _ _ new);
   honest_names = is.honest_names;
   parties' = new_push NewParty [] h.parties a is.parties' (record { spelled = new; room = room });
-  honest' = new_weak (NewHonest h.parties) (NewHonest (h.parties ++ a ∷ [])) [] h.honest (λ done x p. record { named = p.named; spelled = and_is _ _ (among_more x a h.parties (and_left _ _ p.spelled)) (and_right (is_among x h.parties) _ p.spelled) }) is.honest';
+  honest' = new_weak (NewHonest h.parties) (NewHonest (h.parties ++ a ∷ [])) [] h.honest
+      (λ done x p. record {
+        named = p.named;
+        spelled = and_is _ _ (among_more x a h.parties (and_left _ _ p.spelled))
+            (and_right (is_among x h.parties) _ p.spelled);
+      }) is.honest';
   secrets' = is.secrets';
-  deposits' = new_weak (NewDeposit h.parties) (NewDeposit (h.parties ++ a ∷ [])) [] h.deposits (λ done d p. record { named = p.named; spelled = and_is _ _ (among_more d.0 a h.parties (and_left _ _ p.spelled)) (and_right (is_among d.0 h.parties) _ p.spelled); room = p.room; read = p.read }) is.deposits';
+  deposits' = new_weak (NewDeposit h.parties) (NewDeposit (h.parties ++ a ∷ [])) [] h.deposits
+      (λ done d p. record {
+        named = p.named;
+        spelled = and_is _ _ (among_more d.0 a h.parties (and_left _ _ p.spelled))
+            (and_right (is_among d.0 h.parties) _ p.spelled);
+        room = p.room;
+        read = p.read;
+      }) is.deposits';
 }
 
-with_honest : (h : Header) (a : List ℕ) → IsRead h → (is_among a h.parties && not (is_among a h.honest)) ≡ true → IsRead (record h { honest = h.honest ++ a ∷ [] })
+with_honest : (h : Header) (a : List ℕ) → IsRead h → (is_among a h.parties && not (is_among a h.honest)) ≡ true
+    → IsRead (record h { honest = h.honest ++ a ∷ [] })
 with_honest h a is new =
     let named = named_among a h.parties is.party_names (and_left _ _ new) in
     record {
@@ -106,7 +121,19 @@ with_honest h a is new =
       honest_names = all_push is_name h.honest a is.honest_names named;
       parties' = is.parties';
       honest' = new_push (NewHonest h.parties) [] h.honest a is.honest' (record { named = named; spelled = new });
-      secrets' = new_weak (NewSecret h.honest) (NewSecret (h.honest ++ a ∷ [])) [] h.secrets (λ done s p. record { named = p.named; spelled = and_is _ _ (and_is _ _ (among_more s.party a h.honest (and_left _ _ (and_left _ _ p.spelled))) (and_right (is_among s.party h.honest) _ (and_left _ _ p.spelled))) (and_right (is_among s.party h.honest && is_name s.name) _ p.spelled); room = p.room; bytes' = p.bytes'; read = p.read; short = p.short }) is.secrets';
+      secrets' = new_weak (NewSecret h.honest) (NewSecret (h.honest ++ a ∷ [])) [] h.secrets
+          (λ done s p. record {
+            named = p.named;
+            spelled = and_is _ _
+                (and_is _ _ (among_more s.party a h.honest (and_left _ _ (and_left _ _ p.spelled)))
+                (and_right (is_among s.party h.honest) _ (and_left _ _ p.spelled)))
+                (and_right (is_among s.party h.honest && is_name s.name) _
+                p.spelled);
+            room = p.room;
+            bytes' = p.bytes';
+            read = p.read;
+            short = p.short;
+          }) is.secrets';
       deposits' = is.deposits';
     }
 
@@ -119,7 +146,8 @@ secret_short line a s word bytes words read =
     spaced_length line (secret_words (held_secret a s bytes)) (omega arith) (omega (arith, all, size)) (omega (arith, count))
 
 with_secret : (h : Header) (a s word bytes line : List ℕ) → IsRead h → words_of line ≡ codes "secret" ∷ a ∷ s ∷ word ∷ [] → length line ≤ most_line_bytes → read_hex word ≡ some bytes
-    → ((is_among a h.honest && is_name s) && not (list_any (is_taken a s bytes) h.secrets)) ≡ true → nat_lt (length h.secrets) most_header_secrets ≡ true → IsRead (record h { secrets = h.secrets ++ held_secret a s bytes ∷ [] })
+    → ((is_among a h.honest && is_name s) && not (list_any (is_taken a s bytes) h.secrets)) ≡ true
+    → nat_lt (length h.secrets) most_header_secrets ≡ true → IsRead (record h { secrets = h.secrets ++ held_secret a s bytes ∷ [] })
 with_secret h a s word bytes line is words fits read new room =
     let short = secret_short line a s word bytes words read in
     record {
@@ -138,14 +166,23 @@ with_secret h a s word bytes line is words fits read new room =
       deposits' = is.deposits';
     }
 
-with_deposit : (h : Header) (a word : List ℕ) (v : ℕ) → IsRead h → amount word ≡ some v → (is_among a h.parties && nat_le (sum_by (λ d. d.1) h.deposits + v) max_money) ≡ true → nat_lt (length h.deposits) most_header_deposits ≡ true → IsRead (record h { deposits = h.deposits ++ (a, v) ∷ [] })
+with_deposit : (h : Header) (a word : List ℕ) (v : ℕ) → IsRead h → amount word ≡ some v
+    → (is_among a h.parties && nat_le (sum_by (λ d. d.1) h.deposits + v) max_money) ≡ true → nat_lt (length h.deposits) most_header_deposits
+    ≡ true → IsRead (record h { deposits = h.deposits ++ (a, v) ∷ [] })
 with_deposit h a word v is read new room = record {
   party_names = is.party_names;
   honest_names = is.honest_names;
   parties' = is.parties';
   honest' = is.honest';
   secrets' = is.secrets';
-  deposits' = new_push (NewDeposit h.parties) [] h.deposits (a, v) is.deposits' (record { named = named_among a h.parties is.party_names (and_left _ _ new); spelled = new; room = room; read = ap amount (amount_word word v read) ∙ read });
+  deposits' = new_push (NewDeposit h.parties) [] h.deposits (a, v) is.deposits'
+      (record {
+        named = named_among a h.parties is.party_names (and_left _ _ new);
+        spelled = new;
+        room = room;
+        read = ap amount
+            (amount_word word v read) ∙ read;
+      });
 }
 
 -- ---- lines
@@ -181,7 +218,8 @@ deposit_says h k (a ∷ []) is e = absurd cc
 deposit_says h k (a ∷ w ∷ []) is e = deposit_of_says h k a w (amount w) refl is e
 deposit_says h k (a ∷ w ∷ v ∷ ws) is e = absurd cc
 
-words_say : (h k : Header) (line : List ℕ) (ws : List (List ℕ)) → words_of line ≡ ws → length line ≤ most_line_bytes → IsRead h → header_words h ws ≡ says k → IsRead k
+words_say : (h k : Header) (line : List ℕ) (ws : List (List ℕ)) → words_of line ≡ ws → length line ≤ most_line_bytes → IsRead h
+    → header_words h ws ≡ says k → IsRead k
 words_say h k line [] words fits is e = absurd cc
 words_say h k line (w ∷ ws) words fits is e =
     by_test (bytes_eq w (codes "party")) _ _ (says_header k) (IsRead k) e (λ same. party_says h k ws is) (λ e1.
@@ -190,7 +228,8 @@ words_say h k line (w ∷ ws) words fits is e =
     by_test (bytes_eq w (codes "deposit")) _ _ (says_header k) (IsRead k) e3 (λ same. deposit_says h k ws is) (λ e4.
     by_test (bytes_eq w (codes "--")) _ _ (says_header k) (IsRead k) e4 (λ same e5. absurd (rule_says k ws e5)) (λ e5. absurd cc)))))
 
-line_by : (h k : Header) (line : List ℕ) (t : Bool) → is_long line ≡ t → IsRead h → (if t then over limits.Line else header_words h (words_of line)) ≡ says k → IsRead k
+line_by : (h k : Header) (line : List ℕ) (t : Bool) → is_long line ≡ t → IsRead h
+    → (if t then over limits.Line else header_words h (words_of line)) ≡ says k → IsRead k
 line_by h k line true long is e = absurd cc
 line_by h k line false long is e = words_say h k line (words_of line) refl (short_line line long) is e
 

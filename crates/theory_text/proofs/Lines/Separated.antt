@@ -17,9 +17,9 @@ pub lacks_append : (test : ℕ → Bool) (xs ys : List ℕ) → Lacks test xs �
 lacks_append test [] ys h k = k
 lacks_append test (x ∷ xs) ys h k = (h.0, lacks_append test xs ys h.1 k)
 
-pub lacks_front : (test : ℕ → Bool) (xs ys : List ℕ) → Lacks test (xs ++ ys) → Lacks test xs
-lacks_front test [] ys h = tt
-lacks_front test (x ∷ xs) ys h = (h.0, lacks_front test xs ys h.1)
+pub lacks_prefix : (test : ℕ → Bool) (xs ys : List ℕ) → Lacks test (xs ++ ys) → Lacks test xs
+lacks_prefix test [] ys h = tt
+lacks_prefix test (x ∷ xs) ys h = (h.0, lacks_prefix test xs ys h.1)
 
 -- ---- parts
 
@@ -29,15 +29,18 @@ part_last test [] h = refl
 part_last test (x ∷ xs) h = rw (h.0, part_last test xs h.1) refl
 
 -- a part ends at a byte that passes
-pub part_more : (test : ℕ → Bool) (xs : List ℕ) (b : ℕ) (rest : List ℕ) → Lacks test xs → test b ≡ true → parts_of test (xs ++ b ∷ rest) ≡ xs ∷ parts_of test rest
+pub part_more : (test : ℕ → Bool) (xs : List ℕ) (b : ℕ) (rest : List ℕ) → Lacks test xs → test b ≡ true → parts_of test (xs ++ b ∷ rest)
+    ≡ xs ∷ parts_of test rest
 part_more test [] b rest h e = rw e refl
 part_more test (x ∷ xs) b rest h e = rw (h.0, part_more test xs b rest h.1 e) refl
 
-first_lacks : (test : ℕ → Bool) (b : ℕ) (parts : List (List ℕ)) → test b ≡ false → AllByRecursion (Lacks test) parts → AllByRecursion (Lacks test) (onto_first b parts)
+first_lacks : (test : ℕ → Bool) (b : ℕ) (parts : List (List ℕ)) → test b ≡ false → AllByRecursion (Lacks test) parts
+    → AllByRecursion (Lacks test) (onto_first b parts)
 first_lacks test b [] e h = ((e, tt), tt)
 first_lacks test b (part ∷ parts) e h = ((e, h.0), h.1)
 
-cut_lacks : (test : ℕ → Bool) (t : Bool) (b : ℕ) (parts : List (List ℕ)) → test b ≡ t → AllByRecursion (Lacks test) parts → AllByRecursion (Lacks test) (cut_byte t b parts)
+cut_lacks : (test : ℕ → Bool) (t : Bool) (b : ℕ) (parts : List (List ℕ)) → test b ≡ t → AllByRecursion (Lacks test) parts
+    → AllByRecursion (Lacks test) (cut_byte t b parts)
 cut_lacks test true b parts e h = (tt, h)
 cut_lacks test false b parts e h = first_lacks test b parts e h
 
@@ -92,7 +95,8 @@ spaced words = joined (codes " ") words
 abbrev pub each_spaced : List (List ℕ) → List ℕ
 each_spaced words = each_after (codes " ") words
 
-spaced_parts : (word : List ℕ) (words : List (List ℕ)) → Lacks is_space word → AllByRecursion IsWord words → parts_of is_space (word ++ each_spaced words) ≡ word ∷ words
+spaced_parts : (word : List ℕ) (words : List (List ℕ)) → Lacks is_space word → AllByRecursion IsWord words
+    → parts_of is_space (word ++ each_spaced words) ≡ word ∷ words
 spaced_parts word [] h k = ap (parts_of is_space) (append-nil word) ∙ part_last is_space word h
 spaced_parts word (next ∷ words) h k =
     part_more is_space word 32 (next ++ each_spaced words) h refl ∙ ap (λ (ws : List (List ℕ)). word ∷ ws) (spaced_parts next words k.0.lacks k.1)
@@ -117,7 +121,8 @@ each_length [] = refl
 each_length (word ∷ words) = omega (arith, length-append word (each_spaced words), each_length words)
 
 -- words with one space between two are no longer than any line of as many bytes in as many words
-pub spaced_length : (line : List ℕ) (words : List (List ℕ)) → 1 ≤ length words → total words ≡ total (words_of line) → length words ≡ length (words_of line) → length (spaced words) ≤ length line
+pub spaced_length : (line : List ℕ) (words : List (List ℕ)) → 1 ≤ length words → total words ≡ total (words_of line) → length words
+    ≡ length (words_of line) → length (spaced words) ≤ length line
 spaced_length line [] some size count = absurd (omega arith)
 spaced_length line (word ∷ words) some size count =
     let c = cut_is is_space line in

@@ -73,7 +73,8 @@ commit_is s (k ∷ a ∷ ds) e h =
     subst (IsEvent s) (some_is (events.Commit c.first d.first f.first) e f.then') (declared s a d.first d.is, all_digests ds f.first f.is)
 
 -- an event of a contract and a party asks only that the party is declared
-two_is : (s : Setup) (make : ℕ → List ℕ → Event) → ((n : ℕ) (p : List ℕ) → is_declared s p ≡ true → IsEvent s (make n p)) → (words : List (List ℕ)) (e : Event) → contract_and_party make s.header.parties words ≡ some e → IsEvent s e
+two_is : (s : Setup) (make : ℕ → List ℕ → Event) → ((n : ℕ) (p : List ℕ) → is_declared s p ≡ true → IsEvent s (make n p))
+    → (words : List (List ℕ)) (e : Event) → contract_and_party make s.header.parties words ≡ some e → IsEvent s e
 two_is s make asks [] e h = absurd (none_some e h)
 two_is s make asks (k ∷ []) e h = absurd (none_some e h)
 two_is s make asks (k ∷ a ∷ []) e h =
@@ -104,7 +105,8 @@ reveal_is s (k ∷ a ∷ x ∷ []) e h =
     subst (IsEvent s) (some_is (events.Reveal c.first d.first f.first) e f.then') (declared s a d.first d.is)
 reveal_is s (k ∷ a ∷ x ∷ y ∷ ws) e h = absurd (none_some e h)
 
-bytes_is : (s : Setup) (make : List ℕ → Event) → ((bytes : List ℕ) → IsPiece bytes → IsEvent s (make bytes)) → (words : List (List ℕ)) (e : Event) → total words ≤ 1048576 → bytes_event make s.header.parties words ≡ some e → IsEvent s e
+bytes_is : (s : Setup) (make : List ℕ → Event) → ((bytes : List ℕ) → IsPiece bytes → IsEvent s (make bytes))
+    → (words : List (List ℕ)) (e : Event) → total words ≤ 1048576 → bytes_event make s.header.parties words ≡ some e → IsEvent s e
 bytes_is s make asks [] e few h = absurd (none_some e h)
 bytes_is s make asks (w ∷ []) e few h =
     let c = came (read_hex w) (λ bytes. some (make bytes)) e h in
@@ -150,7 +152,8 @@ mine_is s (w ∷ v ∷ ws) e h = absurd (none_some e h)
 abbrev Split : Type 0
 Split = List (List ℕ) × List (List ℕ)
 
-split_is : (t : Bool) (word : List ℕ) (words : List (List ℕ)) (later : Option Split) (p : Split) → before_arrow t word words later ≡ some p → ((q : Split) → later ≡ some q → length q.1 ≤ length words) → length p.1 ≤ length words
+split_is : (t : Bool) (word : List ℕ) (words : List (List ℕ)) (later : Option Split) (p : Split) → before_arrow t word words later ≡ some p
+    → ((q : Split) → later ≡ some q → length q.1 ≤ length words) → length p.1 ≤ length words
 split_is true word words later p h f = let e = ap (λ (z : Split). length z.1) (some_is ([], words) p h) in omega (arith, e)
 split_is false word words None p h f = absurd (none_some p h)
 split_is false word words (Some q) p h f = let e = ap (λ (z : Split). length z.1) (some_is (word ∷ q.0, q.1) p h) in omega (arith, e, f q refl)
@@ -174,7 +177,8 @@ share_is s a v o h =
     let d = came (amount v) (λ n. some (c.first, n)) o c.then' in
     subst (λ (z : Share). is_declared s (z.0) ≡ true) (some_is (c.first, d.first) o d.then') (declared s a c.first c.is)
 
-onto_shares : (s : Setup) (n : ℕ) (x : Option Share) (xs : Option (List Share)) (outputs : List Share) → onto x xs ≡ some outputs → ((o : Share) → x ≡ some o → is_declared s (o.0) ≡ true) → ((os : List Share) → xs ≡ some os → AreShares s n os) → AreShares s (suc (suc n)) outputs
+onto_shares : (s : Setup) (n : ℕ) (x : Option Share) (xs : Option (List Share)) (outputs : List Share) → onto x xs ≡ some outputs
+    → ((o : Share) → x ≡ some o → is_declared s (o.0) ≡ true) → ((os : List Share) → xs ≡ some os → AreShares s n os) → AreShares s (suc (suc n)) outputs
 onto_shares s n (Some o) (Some os) outputs h f g =
     let t = g os refl in
     subst (AreShares s (suc (suc n))) (some_is (o ∷ os) outputs h) (record { takers = and_is _ _ (f o refl) t.takers; few = omega (arith, t.few) })
@@ -184,7 +188,9 @@ onto_shares s n None xs outputs h f g = absurd (none_some outputs h)
 shares_are : (s : Setup) (words : List (List ℕ)) (outputs : List Share) → shares s.header.parties words ≡ some outputs → AreShares s (length words) outputs
 shares_are s [] outputs h = subst (AreShares s 0) (some_is [] outputs h) (record { takers = refl; few = omega arith })
 shares_are s (a ∷ []) outputs h = absurd (none_some outputs h)
-shares_are s (a ∷ v ∷ ws) outputs h = onto_shares s (length ws) (one_of s.header.parties a >>= λ p. amount v >>= λ n. some (p, n)) (shares s.header.parties ws) outputs h (share_is s a v) (shares_are s ws)
+shares_are s (a ∷ v ∷ ws) outputs h =
+    onto_shares s (length ws) (one_of s.header.parties a >>= λ p. amount v >>= λ n. some (p, n)) (shares s.header.parties ws) outputs h
+    (share_is s a v) (shares_are s ws)
 
 some_list : {A : Type 0} (xs : List A) → is_some_list xs ≡ true → 1 ≤ length xs
 some_list [] h = absurd cc
@@ -210,7 +216,8 @@ give_is s (a ∷ ws) e few h =
 
 -- ---- all events
 
-event_by_is : (s : Setup) (word : List ℕ) (words : List (List ℕ)) (e : Event) → total words ≤ 1048576 → length words ≤ 524288 → event_by word s.header.parties words ≡ some e → IsEvent s e
+event_by_is : (s : Setup) (word : List ℕ) (words : List (List ℕ)) (e : Event) → total words ≤ 1048576 → length words ≤ 524288
+    → event_by word s.header.parties words ≡ some e → IsEvent s e
 event_by_is s word words e size few h =
     by_test (bytes_eq word (codes "advertise")) _ _ (some e) (IsEvent s e) h (λ same. advertise_is s words e) (λ h1.
     by_test (bytes_eq word (codes "commit")) _ _ (some e) (IsEvent s e) h1 (λ same. commit_is s words e) (λ h2.
@@ -226,6 +233,7 @@ event_by_is s word words e size few h =
     by_test (bytes_eq word (codes "mine")) _ _ (some e) (IsEvent s e) h11 (λ same. mine_is s words e) (λ h12. absurd (none_some e h12)))))))))))))
 
 -- what the words of a line spell, where these are no more than a line has
-pub event_is : (s : Setup) (words : List (List ℕ)) (e : Event) → total words ≤ 1048576 → 2 * length words ≤ 1048577 → event_of s.header.parties words ≡ Some e → IsEvent s e
+pub event_is : (s : Setup) (words : List (List ℕ)) (e : Event) → total words ≤ 1048576 → 2 * length words ≤ 1048577
+    → event_of s.header.parties words ≡ Some e → IsEvent s e
 event_is s [] e size few h = absurd (none_some e h)
 event_is s (word ∷ words) e size few h = event_by_is s word words e (omega arith) (omega arith) h

@@ -46,7 +46,8 @@ one_more : {X : Type 0} (xs : List X) (x : X) (most : ℕ) → nat_lt (length xs
 one_more xs x most h = let n = length-append xs (x ∷ []) in grind (arith, nat_tests)
 
 -- a party
-with_party : (h : Header) (a : List ℕ) → IsHeader h → (is_name a && not (is_among a h.parties)) ≡ true → nat_lt (length h.parties) 64 ≡ true → IsHeader (record h { parties = h.parties ++ a ∷ [] })
+with_party : (h : Header) (a : List ℕ) → IsHeader h → (is_name a && not (is_among a h.parties)) ≡ true → nat_lt (length h.parties) 64 ≡ true
+    → IsHeader (record h { parties = h.parties ++ a ∷ [] })
 with_party h a is new room = record {
   parties = different_push h.parties a is.parties (not_yes _ (and_right (is_name a) _ new));
   honest = is.honest;
@@ -62,7 +63,8 @@ with_party h a is new room = record {
 }
 
 -- an honest party
-with_honest : (h : Header) (a : List ℕ) → IsHeader h → (is_among a h.parties && not (is_among a h.honest)) ≡ true → IsHeader (record h { honest = h.honest ++ a ∷ [] })
+with_honest : (h : Header) (a : List ℕ) → IsHeader h → (is_among a h.parties && not (is_among a h.honest)) ≡ true
+    → IsHeader (record h { honest = h.honest ++ a ∷ [] })
 with_honest h a is new = record {
   parties = is.parties;
   honest = different_push h.honest a is.honest (not_yes _ (and_right (is_among a h.parties) _ new));
@@ -77,11 +79,14 @@ with_honest h a is new = record {
   few_deposits = is.few_deposits;
 }
 
-money_with : (ds : List (List ℕ × ℕ)) (a : List ℕ) (v : ℕ) → nat_le (sum_by (λ d. d.1) ds + v) max_money ≡ true → sum_by (λ d. d.1) (ds ++ (a, v) ∷ []) ≤ max_money
+money_with : (ds : List (List ℕ × ℕ)) (a : List ℕ) (v : ℕ) → nat_le (sum_by (λ d. d.1) ds + v) max_money ≡ true
+    → sum_by (λ d. d.1) (ds ++ (a, v) ∷ []) ≤ max_money
 money_with ds a v e = let s = sum_by-append (λ (d : List ℕ × ℕ). d.1) ds ((a, v) ∷ []) in grind (arith, nat_tests)
 
 -- a deposit
-with_deposit : (h : Header) (a : List ℕ) (v : ℕ) → IsHeader h → (is_among a h.parties && nat_le (sum_by (λ d. d.1) h.deposits + v) max_money) ≡ true → nat_lt (length h.deposits) 1000 ≡ true → IsHeader (record h { deposits = h.deposits ++ (a, v) ∷ [] })
+with_deposit : (h : Header) (a : List ℕ) (v : ℕ) → IsHeader h
+    → (is_among a h.parties && nat_le (sum_by (λ d. d.1) h.deposits + v) max_money) ≡ true → nat_lt (length h.deposits) 1000 ≡ true
+    → IsHeader (record h { deposits = h.deposits ++ (a, v) ∷ [] })
 with_deposit h a v is new room = record {
   parties = is.parties;
   honest = is.honest;
@@ -107,7 +112,8 @@ named_back x a s bytes h =
     let one : (bytes_eq x.party a && bytes_eq x.name s) ≡ false = or_left _ _ h in
     rw (bytes_eq-back a x.party, bytes_eq-back s x.name) one
 
-apart_push : (xs : List HeldSecret) (a s bytes : List ℕ) → are_held_apart xs ≡ true → list_any (is_taken a s bytes) xs ≡ false → are_held_apart (xs ++ held_secret a s bytes ∷ []) ≡ true
+apart_push : (xs : List HeldSecret) (a s bytes : List ℕ) → are_held_apart xs ≡ true → list_any (is_taken a s bytes) xs ≡ false
+    → are_held_apart (xs ++ held_secret a s bytes ∷ []) ≡ true
 apart_push [] a s bytes h new = refl
 apart_push (x ∷ xs) a s bytes h new =
     let apart : list_any (is_named x) (xs ++ held_secret a s bytes ∷ []) ≡ false = list_any-append (is_named x) xs (held_secret a s bytes ∷ []) ∙ or_no _ _ (not_yes _ (and_left _ _ h)) (or_no _ _ (named_back x a s bytes (or_left _ _ new)) refl) in
@@ -122,7 +128,9 @@ map_bytes [] x = refl
 map_bytes (y ∷ ys) x = ap (λ (bs : List (List ℕ)). y.bytes ∷ bs) (map_bytes ys x)
 
 -- a secret
-with_secret : (h : Header) (a s bytes : List ℕ) → IsHeader h → ((is_among a h.honest && is_name s) && not (list_any (is_taken a s bytes) h.secrets)) ≡ true → nat_lt (length h.secrets) 1000 ≡ true → IsHeader (record h { secrets = h.secrets ++ held_secret a s bytes ∷ [] })
+with_secret : (h : Header) (a s bytes : List ℕ) → IsHeader h
+    → ((is_among a h.honest && is_name s) && not (list_any (is_taken a s bytes) h.secrets)) ≡ true → nat_lt (length h.secrets) 1000 ≡ true
+    → IsHeader (record h { secrets = h.secrets ++ held_secret a s bytes ∷ [] })
 with_secret h a s bytes is new room =
     let free : list_any (is_taken a s bytes) h.secrets ≡ false = not_yes _ (and_right (is_among a h.honest && is_name s) _ new) in
     record {
@@ -131,7 +139,8 @@ with_secret h a s bytes is new room =
       honest_declared = is.honest_declared;
       owners = all_push (λ x. is_among x.party h.honest) h.secrets (held_secret a s bytes) is.owners (and_left _ _ (and_left _ _ new));
       names = apart_push h.secrets a s bytes is.names free;
-      bytes = ap are_different (map_bytes h.secrets (held_secret a s bytes)) ∙ different_push (map (λ x. x.bytes) h.secrets) bytes is.bytes (new_bytes h.secrets a s bytes free);
+      bytes = ap are_different (map_bytes h.secrets (held_secret a s bytes))
+          ∙ different_push (map (λ x. x.bytes) h.secrets) bytes is.bytes (new_bytes h.secrets a s bytes free);
       depositors = is.depositors;
       money = is.money;
       few_parties = is.few_parties;
@@ -221,7 +230,8 @@ headed_eq x y e = cc
 fault_headed : (f : RunFault) (x : Headed) → Err f ≡ headed x → ⊥
 fault_headed f x e = cc
 
-step_is : (P : Header → Type 0) (h : Header) (n : ℕ) (lines : List (List ℕ)) (said : Line Header) (later : Result Headed RunFault) (x : Headed) → P h → (later ≡ headed x → P x.0) → header_step h n lines said later ≡ headed x → P x.0
+step_is : (P : Header → Type 0) (h : Header) (n : ℕ) (lines : List (List ℕ)) (said : Line Header) (later : Result Headed RunFault)
+    (x : Headed) → P h → (later ≡ headed x → P x.0) → header_step h n lines said later ≡ headed x → P x.0
 step_is P h n lines bad later x is f e = absurd (fault_headed _ x e)
 step_is P h n lines (over w) later x is f e = absurd (fault_headed _ x e)
 step_is P h n lines empty later x is f e = f e
@@ -229,7 +239,8 @@ step_is P h n lines rule later x is f e = subst P (ap (λ (z : Headed). z.0) (he
 step_is P h n lines (says k) later x is f e = f e
 
 -- what each line keeps holds of the header of lines, where it holds of what came before
-pub header_keeps : (P : Header → Type 0) → ((h k : Header) (line : List ℕ) → P h → header_line h line ≡ says k → P k) → (h : Header) (n : ℕ) (lines : List (List ℕ)) (x : Headed) → P h → read_header h n lines ≡ Ok x → P x.0
+pub header_keeps : (P : Header → Type 0) → ((h k : Header) (line : List ℕ) → P h → header_line h line ≡ says k → P k)
+    → (h : Header) (n : ℕ) (lines : List (List ℕ)) (x : Headed) → P h → read_header h n lines ≡ Ok x → P x.0
 header_keeps P keeps h n [] x is e = absurd (fault_headed _ x e)
 header_keeps P keeps h n (line ∷ lines) x is e =
     step_is P h n lines (header_line h line) (read_header (kept h (header_line h line)) (n + 1) lines) x is

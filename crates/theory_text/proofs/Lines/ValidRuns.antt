@@ -48,7 +48,8 @@ said_is : (s : Setup) (count : ℕ) (o : Option Event) (e : Event) → ((d : Eve
 said_is s count None e f h = absurd (bad_says e h)
 said_is s count (Some d) e f h = subst (IsEvent s) (within_is (nat_lt count most_events) d e h) (f d refl)
 
-words_are : (s : Setup) (count : ℕ) (words : List (List ℕ)) (e : Event) → total words ≤ 1048576 → 2 * length words ≤ 1048577 → event_words s.header.parties count words ≡ an_event e → IsEvent s e
+words_are : (s : Setup) (count : ℕ) (words : List (List ℕ)) (e : Event) → total words ≤ 1048576 → 2 * length words ≤ 1048577
+    → event_words s.header.parties count words ≡ an_event e → IsEvent s e
 words_are s count [] e size few h = absurd (empty_says e h)
 words_are s count (w ∷ ws) e size few h = said_is s count (event_of s.header.parties (w ∷ ws)) e (λ d is. event_is s (w ∷ ws) d size few is) h
 
@@ -80,21 +81,26 @@ events_eq ds es h = cc
 fault_read : (f : RunFault) (es : List Event) → Err f ≡ events_read es → ⊥
 fault_read f es h = cc
 
-onto_events : (s : Setup) (e : Event) (later : Result (List Event) RunFault) (es : List Event) → IsEvent s e → ((ds : List Event) → later ≡ events_read ds → AllByRecursion (IsEvent s) ds) → with_event e later ≡ events_read es → AllByRecursion (IsEvent s) es
+onto_events : (s : Setup) (e : Event) (later : Result (List Event) RunFault) (es : List Event) → IsEvent s e
+    → ((ds : List Event) → later ≡ events_read ds → AllByRecursion (IsEvent s) ds) → with_event e later ≡ events_read es → AllByRecursion (IsEvent s) es
 onto_events s e (Ok ds) es is f h = subst (AllByRecursion (IsEvent s)) (events_eq (e ∷ ds) es h) (is, f ds refl)
 onto_events s e (Err fault) es is f h = absurd (fault_read fault es h)
 
-step_is : (s : Setup) (n : ℕ) (said : Line Event) (later : Result (List Event) RunFault) (es : List Event) → ((e : Event) → said ≡ an_event e → IsEvent s e) → ((ds : List Event) → later ≡ events_read ds → AllByRecursion (IsEvent s) ds) → event_step n said later ≡ events_read es → AllByRecursion (IsEvent s) es
+step_is : (s : Setup) (n : ℕ) (said : Line Event) (later : Result (List Event) RunFault) (es : List Event)
+    → ((e : Event) → said ≡ an_event e → IsEvent s e) → ((ds : List Event) → later ≡ events_read ds → AllByRecursion (IsEvent s) ds)
+    → event_step n said later ≡ events_read es → AllByRecursion (IsEvent s) es
 step_is s n bad later es f g h = absurd (fault_read _ es h)
 step_is s n (over w) later es f g h = absurd (fault_read _ es h)
 step_is s n empty later es f g h = g es h
 step_is s n rule later es f g h = absurd (fault_read _ es h)
 step_is s n (says e) later es f g h = onto_events s e later es (f e refl) g h
 
-events_are : (s : Setup) (count n : ℕ) (lines : List (List ℕ)) (es : List Event) → read_events s.header.parties count n lines ≡ events_read es → AllByRecursion (IsEvent s) es
+events_are : (s : Setup) (count n : ℕ) (lines : List (List ℕ)) (es : List Event) → read_events s.header.parties count n lines
+    ≡ events_read es → AllByRecursion (IsEvent s) es
 events_are s count n [] es h = subst (AllByRecursion (IsEvent s)) (events_eq [] es h) tt
 events_are s count n (line ∷ lines) es h =
-    step_is s n (event_of_line s.header.parties count line) (read_events s.header.parties (counted count (event_of_line s.header.parties count line)) (n + 1) lines) es (line_is s count line)
+    step_is s n (event_of_line s.header.parties count line)
+    (read_events s.header.parties (counted count (event_of_line s.header.parties count line)) (n + 1) lines) es (line_is s count line)
     (events_are s (counted count (event_of_line s.header.parties count line)) (n + 1) lines) h
 
 -- ---- the run
@@ -108,8 +114,11 @@ run_eq q r h = cc
 pub fault_run : (f : RunFault) (r : Run) → Err f ≡ a_run r → ⊥
 fault_run f r h = cc
 
-header_and_events : (header : Header) (read : Result (List Event) RunFault) (run : Run) → IsHeader header → ((es : List Event) → read ≡ events_read es → (s : Setup) → s.header ≡ header → AllByRecursion (IsEvent s) es) → with_header header read ≡ a_run run → IsReadRun run
-header_and_events header (Ok es) run is f h = subst IsReadRun (run_eq (record { header = header; events = es }) run h) (record { header = is; events = f es refl })
+header_and_events : (header : Header) (read : Result (List Event) RunFault) (run : Run) → IsHeader header
+    → ((es : List Event) → read ≡ events_read es → (s : Setup) → s.header ≡ header → AllByRecursion (IsEvent s) es)
+    → with_header header read ≡ a_run run → IsReadRun run
+header_and_events header (Ok es) run is f h =
+    subst IsReadRun (run_eq (record { header = header; events = es }) run h) (record { header = is; events = f es refl })
 header_and_events header (Err fault) run is f h = absurd (fault_run fault run h)
 
 rest_is : (headed : Result Headed RunFault) (run : Run) → ((x : Headed) → headed ≡ Ok x → IsHeader (x.0)) → read_rest headed ≡ a_run run → IsReadRun run
@@ -141,4 +150,5 @@ not_refused true why judged run h = absurd (refused_taken why run h)
 not_refused false why judged run h = h
 
 pub run_file_is : (text : List ℕ) (run : Run) → run_of text ≡ Ok run → IsReadRun run
-run_file_is text run h = run_is text run (judged_is (read_run text) run (not_refused (nat_lt most_run_bytes (length text)) _ (judged_run (read_run text)) run h))
+run_file_is text run h =
+    run_is text run (judged_is (read_run text) run (not_refused (nat_lt most_run_bytes (length text)) _ (judged_run (read_run text)) run h))

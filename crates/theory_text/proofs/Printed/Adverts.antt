@@ -31,9 +31,13 @@ money v h = number_piece v (omega (arith, le_is v max_money h))
 
 entry_piece : (p : Pre) → is_readable_entry p ≡ true → Piece (entry_text p) (entry p)
 entry_piece (Persistent party value x) h =
-    piece_then (name_piece party (and_left _ _ h)) (closed_then colon_bang (piece_then (money value (and_left _ _ (and_right _ _ h))) (closed_then at_spaced (name_piece x (and_right _ _ (and_right _ _ h)))) refl)) refl
+    piece_then (name_piece party (and_left _ _ h))
+    (closed_then colon_bang (piece_then (money value (and_left _ _ (and_right _ _ h)))
+    (closed_then at_spaced (name_piece x (and_right _ _ (and_right _ _ h)))) refl)) refl
 entry_piece (Volatile party value x) h =
-    piece_then (name_piece party (and_left _ _ h)) (closed_then colon_question (piece_then (money value (and_left _ _ (and_right _ _ h))) (closed_then at_spaced (name_piece x (and_right _ _ (and_right _ _ h)))) refl)) refl
+    piece_then (name_piece party (and_left _ _ h))
+    (closed_then colon_question (piece_then (money value (and_left _ _ (and_right _ _ h)))
+    (closed_then at_spaced (name_piece x (and_right _ _ (and_right _ _ h)))) refl)) refl
 entry_piece (Secret party x) h =
     piece_then (name_piece party (and_left _ _ h)) (closed_then (closed_closed colon_space secret_space) (name_piece x (and_right _ _ h))) refl
 
@@ -43,7 +47,8 @@ rest_entries_end (p ∷ ps) = refl
 
 more_entries_piece : (ps : List Pre) → list_all is_readable_entry ps ≡ true → Piece (rest_entries_text ps) (more_entries ps)
 more_entries_piece [] h = open_ended nothing
-more_entries_piece (p ∷ ps) h = closed_then bar_spaced (piece_then (entry_piece p (and_left _ _ h)) (more_entries_piece ps (and_right _ _ h)) (rest_entries_end ps))
+more_entries_piece (p ∷ ps) h =
+    closed_then bar_spaced (piece_then (entry_piece p (and_left _ _ h)) (more_entries_piece ps (and_right _ _ h)) (rest_entries_end ps))
 
 -- ---- the fee
 
@@ -68,7 +73,8 @@ record AdvertSpelled (advert : Advert) : Type 0 where
 joined_parts : (p more fee root : List Lexeme) (brace : Lexeme) → (p ++ more) ++ brace ∷ (fee ++ root) ≡ (p ++ (more ++ brace ∷ [])) ++ (fee ++ root)
 joined_parts p more fee root brace = simp append_assoc
 
-advert_from : (p : Pre) (ps : List Pre) (advert : Advert) → advert.pre ≡ p ∷ ps → list_all is_readable_entry (p ∷ ps) ≡ true → FeeSpelled advert.fee → ChoiceSpelled advert.root → AdvertSpelled advert
+advert_from : (p : Pre) (ps : List Pre) (advert : Advert) → advert.pre ≡ p ∷ ps → list_all is_readable_entry (p ∷ ps) ≡ true
+    → FeeSpelled advert.fee → ChoiceSpelled advert.root → AdvertSpelled advert
 advert_from p ps advert e h f c =
     let entries = piece_then (entry_piece p (and_left _ _ h)) (more_entries_piece ps (and_right _ _ h)) (rest_entries_end ps) in
     let piece = closed_then left_brace (piece_then entries (closed_then right_brace_space (closed_then f.piece c.piece)) refl) in
@@ -87,7 +93,8 @@ advert_from p ps advert e h f c =
       };
     }
 
-some_entries : (advert : Advert) (pre : List Pre) → advert.pre ≡ pre → is_some_list pre ≡ true → list_all is_readable_entry pre ≡ true → FeeSpelled advert.fee → ChoiceSpelled advert.root → AdvertSpelled advert
+some_entries : (advert : Advert) (pre : List Pre) → advert.pre ≡ pre → is_some_list pre ≡ true → list_all is_readable_entry pre ≡ true
+    → FeeSpelled advert.fee → ChoiceSpelled advert.root → AdvertSpelled advert
 some_entries advert [] e some h f c = absurd cc
 some_entries advert (p ∷ ps) e some h f c = advert_from p ps advert e h f c
 
@@ -96,7 +103,8 @@ advert_spelled advert h =
     let entries = and_left _ _ (and_left _ _ h) in
     let more = and_right _ _ h in
     let root = and_left _ _ (and_right _ _ more) in
-    some_entries advert advert.pre refl (and_left _ _ entries) (and_right _ _ entries) (fee_spelled advert.fee (and_left _ _ more)) (choice_spelled advert.root (and_left _ _ root) (and_right _ _ root))
+    some_entries advert advert.pre refl (and_left _ _ entries) (and_right _ _ entries) (fee_spelled advert.fee (and_left _ _ more))
+    (choice_spelled advert.root (and_left _ _ root) (and_right _ _ root))
 
 -- the canonical text of a readable advert spells it
 pub printed_is_spelled : (advert : Advert) → is_readable advert ≡ true → IsSpelledBy (advert_text advert) advert

@@ -38,14 +38,16 @@ record HeadingSpelled (puts reveals : List (List ℕ)) (test : Pred) : Type 0 wh
   piece : Piece (heading_text puts reveals test) tokens
   spells : SpellsHeading tokens puts reveals test
 
-put_only : (x : List ℕ) (xs : List (List ℕ)) (test : Pred) → (t : Bool) → is_always test ≡ t → t || false ≡ true → list_all is_name (x ∷ xs) ≡ true → HeadingSpelled (x ∷ xs) [] test
+put_only : (x : List ℕ) (xs : List (List ℕ)) (test : Pred) → (t : Bool) → is_always test ≡ t → t || false ≡ true → list_all is_name (x ∷ xs)
+    ≡ true → HeadingSpelled (x ∷ xs) [] test
 put_only x xs always t a w h = record { tokens = keyword word.Put ∷ names x xs; piece = closed_then put_space (names_piece x xs h); spells = (refl, refl) }
 put_only x xs (both p q) t a w h = absurd cc
 put_only x xs (negation p) t a w h = absurd cc
 put_only x xs (equal e f) t a w h = absurd cc
 put_only x xs (less e f) t a w h = absurd cc
 
-heading_spelled : (puts reveals : List (List ℕ)) (test : Pred) → is_whole_prefix puts reveals test ≡ true → list_all is_name puts ≡ true → list_all is_name reveals ≡ true → has_readable_formulas test ≡ true → HeadingSpelled puts reveals test
+heading_spelled : (puts reveals : List (List ℕ)) (test : Pred) → is_whole_prefix puts reveals test ≡ true → list_all is_name puts ≡ true
+    → list_all is_name reveals ≡ true → has_readable_formulas test ≡ true → HeadingSpelled puts reveals test
 heading_spelled [] [] test w h k l = absurd cc
 heading_spelled (x ∷ xs) [] test w h k l = put_only x xs test (is_always test) refl w h
 heading_spelled [] (a ∷ as') test w h k l =
@@ -60,7 +62,8 @@ heading_spelled (x ∷ xs) (a ∷ as') test w h k l =
     let t = keyword word.Reveal ∷ (names a as' ++ c.tokens) in
     record {
       tokens = keyword word.Put ∷ (names x xs ++ symbol mark.Ampersand ∷ t);
-      piece = closed_then put_space (piece_then (names_piece x xs h) (closed_then (closed_closed ampersand_spaced reveal_space) (piece_then (names_piece a as' k) c.piece c.ends)) refl);
+      piece = closed_then put_space (piece_then (names_piece x xs h)
+          (closed_then (closed_closed ampersand_spaced reveal_space) (piece_then (names_piece a as' k) c.piece c.ends)) refl);
       spells = (t, refl, (c.tokens, refl, c.spells));
     }
 
@@ -94,7 +97,13 @@ record MorePartsSpelled (ps : Parts) : Type 0 where
 -- ---- one production each
 
 auth_spelled : (party : List ℕ) (body : Guarded) → is_name party ≡ true → BranchSpelled body → BranchSpelled (auth party body)
-auth_spelled party body h s = record { tokens = name party ∷ symbol mark.Colon ∷ s.tokens; piece = piece_then (name_piece party h) (closed_then colon_spaced s.piece) refl; spells = (s.tokens, refl, s.spells) }
+auth_spelled party body h s =
+    record {
+      tokens = name party ∷ symbol mark.Colon
+          ∷ s.tokens;
+      piece = piece_then (name_piece party h) (closed_then colon_spaced s.piece) refl;
+      spells = (s.tokens, refl, s.spells);
+    }
 
 after_spelled : (height : ℕ) (body : Guarded) → nat_le height last_height ≡ true → BranchSpelled body → BranchSpelled (after height body)
 after_spelled height body h s =
@@ -104,8 +113,15 @@ after_spelled height body h s =
       spells = (s.tokens, refl, s.spells);
     }
 
-headed_spelled : (puts reveals : List (List ℕ)) (test : Pred) (next : Contract) → HeadingSpelled puts reveals test → ChoiceSpelled next → BranchSpelled (put_reveal puts reveals test next)
-headed_spelled puts reveals test next h s = record { tokens = h.tokens ++ symbol mark.Dot ∷ s.tokens; piece = piece_then h.piece (closed_then dot_spaced s.piece) refl; spells = (h.tokens, s.tokens, refl, h.spells, s.spells) }
+headed_spelled : (puts reveals : List (List ℕ)) (test : Pred) (next : Contract) → HeadingSpelled puts reveals test → ChoiceSpelled next
+    → BranchSpelled (put_reveal puts reveals test next)
+headed_spelled puts reveals test next h s =
+    record {
+      tokens = h.tokens ++ symbol mark.Dot
+          ∷ s.tokens;
+      piece = piece_then h.piece (closed_then dot_spaced s.piece) refl;
+      spells = (h.tokens, s.tokens, refl, h.spells, s.spells);
+    }
 
 withdraw_spelled : (party : List ℕ) → is_name party ≡ true → BranchSpelled (withdraw party)
 withdraw_spelled party h = record { tokens = keyword word.Withdraw ∷ name party ∷ []; piece = closed_then withdraw_space (name_piece party h); spells = refl }
@@ -124,7 +140,13 @@ rest_ends (branch b bs) = refl
 
 -- one branch alone, and branches in brackets
 choice_from : (b : Guarded) (bs : Contract) → BranchSpelled b → MoreSpelled bs → ChoiceSpelled (branch b bs)
-choice_from b no_branch s m = record { tokens = s.tokens; piece = subst (λ (text : List ℕ). Piece text s.tokens) (sym (append-nil (branch_text b))) s.piece; spells = inl (s.spells, refl) }
+choice_from b no_branch s m =
+    record {
+      tokens = s.tokens;
+      piece = subst (λ (text : List ℕ). Piece text s.tokens) (sym (append-nil (branch_text b)))
+          s.piece;
+      spells = inl (s.spells, refl);
+    }
 choice_from b (branch c cs) s m =
     let t = s.tokens ++ (m.tokens ++ symbol mark.RightParen ∷ []) in
     let inner : Piece (branch_text b ++ (rest_text (branch c cs) ++ codes ")")) t = piece_then s.piece (piece_then m.piece (open_ended right_paren) refl) refl in
@@ -132,20 +154,38 @@ choice_from b (branch c cs) s m =
     record { tokens = symbol mark.LeftParen ∷ t; piece = closed_then left_paren piece; spells = inr (s.tokens, m.tokens, refl, s.spells, m.spells) }
 
 more_from : (b : Guarded) (bs : Contract) → BranchSpelled b → MoreSpelled bs → MoreSpelled (branch b bs)
-more_from b bs s m = record { tokens = symbol mark.Plus ∷ (s.tokens ++ m.tokens); piece = closed_then plus_spaced (piece_then s.piece m.piece (rest_ends bs)); spells = (s.tokens, m.tokens, refl, s.spells, m.spells) }
+more_from b bs s m = record {
+  tokens = symbol mark.Plus
+      ∷ (s.tokens ++ m.tokens);
+  piece = closed_then plus_spaced
+      (piece_then s.piece m.piece (rest_ends bs));
+  spells = (s.tokens, m.tokens, refl, s.spells, m.spells);
+}
 
 rest_parts_ends : (ps : Parts) → Ends (rest_parts_text ps)
 rest_parts_ends no_part = tt
 rest_parts_ends (part v c ps) = refl
 
 part_piece : (v : ℕ) (c : Contract) (ps : Parts) → nat_le v max_money ≡ true → (s : ChoiceSpelled c) (m : MorePartsSpelled ps) → Piece (decimal v ++ (codes " -> " ++ (choice_text c ++ rest_parts_text ps))) (number v ∷ symbol mark.Arrow ∷ (s.tokens ++ m.tokens))
-part_piece v c ps h s m = piece_then (number_piece v (omega (arith, le_is v max_money h))) (closed_then arrow_spaced (piece_then s.piece m.piece (rest_parts_ends ps))) refl
+part_piece v c ps h s m =
+    piece_then (number_piece v (omega (arith, le_is v max_money h))) (closed_then arrow_spaced (piece_then s.piece m.piece (rest_parts_ends ps))) refl
 
 parts_from : (v : ℕ) (c : Contract) (ps : Parts) → nat_le v max_money ≡ true → ChoiceSpelled c → MorePartsSpelled ps → PartsSpelled (part v c ps)
-parts_from v c ps h s m = record { tokens = number v ∷ symbol mark.Arrow ∷ (s.tokens ++ m.tokens); piece = part_piece v c ps h s m; spells = (s.tokens, m.tokens, refl, s.spells, m.spells) }
+parts_from v c ps h s m = record {
+  tokens = number v ∷ symbol mark.Arrow
+      ∷ (s.tokens ++ m.tokens);
+  piece = part_piece v c ps h s m;
+  spells = (s.tokens, m.tokens, refl, s.spells, m.spells);
+}
 
 more_parts_from : (v : ℕ) (c : Contract) (ps : Parts) → nat_le v max_money ≡ true → ChoiceSpelled c → MorePartsSpelled ps → MorePartsSpelled (part v c ps)
-more_parts_from v c ps h s m = record { tokens = symbol mark.Comma ∷ number v ∷ symbol mark.Arrow ∷ (s.tokens ++ m.tokens); piece = closed_then comma_space (part_piece v c ps h s m); spells = (s.tokens, m.tokens, refl, s.spells, m.spells) }
+more_parts_from v c ps h s m =
+    record {
+      tokens = symbol mark.Comma ∷ number v ∷ symbol mark.Arrow
+          ∷ (s.tokens ++ m.tokens);
+      piece = closed_then comma_space (part_piece v c ps h s m);
+      spells = (s.tokens, m.tokens, refl, s.spells, m.spells);
+    }
 
 -- ---- contracts
 
@@ -158,7 +198,8 @@ mutual
       let second = and_right _ _ h in
       let third = and_right _ _ second in
       headed_spelled puts reveals test next
-      (heading_spelled puts reveals test (and_left _ _ first) (and_left _ _ (and_right _ _ first)) (and_right _ _ (and_right _ _ first)) (and_right _ _ (and_left _ _ second)))
+      (heading_spelled puts reveals test (and_left _ _ first) (and_left _ _ (and_right _ _ first)) (and_right _ _ (and_right _ _ first))
+      (and_right _ _ (and_left _ _ second)))
       (choice_spelled next (and_left _ _ third) (and_right _ _ third))
   branch_spelled (withdraw party) h = withdraw_spelled party h
   branch_spelled (split ps) h = split_spelled ps (parts_spelled ps (and_left _ _ h) (and_right _ _ h))

@@ -10,7 +10,7 @@ use Rattle.spec_terms.specs.Readable.{is_letter}
 use Rattle.spec_text.specs.declared.token.Kind.{Kind}
 use Rattle.spec_text.specs.declared.token.Kind.TheVariants as kind
 use Rattle.spec_text.specs.declared.lexeme.Lexeme.TheVariants.{Number as number}
-use Rattle.spec_text.specs.Lexis.{is_blank, number_kind, Front, number_front, front}
+use Rattle.spec_text.specs.Lexis.{is_blank, number_kind, Prefix, number_prefix, prefix}
 use Rattle.theory_text.proofs.ListFacts.{and_left, and_right, or_left, or_right}
 use Rattle.theory_text.proofs.Lines.Decimals.{AllDigits, decimal-digits, decimal-value}
 use Rattle.theory_text.proofs.Runs.{Stops, run_append}
@@ -20,15 +20,16 @@ name_byte_no_digit : (rest : List ℕ) → Ends rest → Stops is_digit rest
 name_byte_no_digit [] h = tt
 name_byte_no_digit (b ∷ rest) h = or_left (is_digit b) _ (or_right (is_letter b) _ h)
 
-abbrev some_front : Kind → ℕ → Option Front
-some_front k n = Some (k, n)
+abbrev some_prefix : Kind → ℕ → Option Prefix
+some_prefix k n = Some (k, n)
 
-number_at_front : (b : ℕ) (more rest : List ℕ) → list_all is_digit more ≡ true → Ends rest → number_front b (more ++ rest) ≡ (number_kind (b ∷ more), length more)
-unfolding number_front
-number_at_front b more rest h ends = ap (λ (run : List ℕ). let f : Front = (number_kind (b ∷ run), length run) in f) (run_append is_digit more rest h (name_byte_no_digit rest ends))
+number_at_prefix : (b : ℕ) (more rest : List ℕ) → list_all is_digit more ≡ true → Ends rest → number_prefix b (more ++ rest)
+    ≡ (number_kind (b ∷ more), length more)
+unfolding number_prefix
+number_at_prefix b more rest h ends = ap (λ (run : List ℕ). let f : Prefix = (number_kind (b ∷ run), length run) in f) (run_append is_digit more rest h (name_byte_no_digit rest ends))
 
-front_digit : (b : ℕ) (bytes : List ℕ) → is_letter b ≡ false → (b == 48) ≡ false → is_digit b ≡ true → front b bytes ≡ Some (number_front b bytes)
-front_digit b bytes h i j = rw (h, i, j) refl
+prefix_digit : (b : ℕ) (bytes : List ℕ) → is_letter b ≡ false → (b == 48) ≡ false → is_digit b ≡ true → prefix b bytes ≡ Some (number_prefix b bytes)
+prefix_digit b bytes h i j = rw (h, i, j) refl
 
 number_kind-is : (n : ℕ) (digits : List ℕ) → decimal_value digits ≡ n → n < 2 ^ 64 → number_kind digits ≡ kind.Number n
 number_kind-is n digits is small =
@@ -42,8 +43,8 @@ positive n (b ∷ more) small is value first =
     let digit : is_digit b ≡ true = and_left _ _ is in
     let no_letter : is_letter b ≡ false = digit_no_letter b digit in
     let no_zero : (b == 48) ≡ false = above_zero b first in
-    let read : (rest : List ℕ) → Ends rest → front b (more ++ rest) ≡ some_front (kind.Number n) (length more) = λ rest ends.
-    front_digit b (more ++ rest) no_letter no_zero digit ∙ (ap (λ (f : Front). Some f) (number_at_front b more rest (and_right (is_digit b) _ is) ends) ∙ ap (λ (k : Kind). some_front k (length more)) (number_kind-is n (b ∷ more) value small)) in
+    let read : (rest : List ℕ) → Ends rest → prefix b (more ++ rest) ≡ some_prefix (kind.Number n) (length more) = λ rest ends.
+    prefix_digit b (more ++ rest) no_letter no_zero digit ∙ (ap (λ (f : Prefix). Some f) (number_at_prefix b more rest (and_right (is_digit b) _ is) ends) ∙ ap (λ (k : Kind). some_prefix k (length more)) (number_kind-is n (b ∷ more) value small)) in
     record { says = λ rest later ends l. says_token b more rest (kind.Number n) (number n) later (digit_no_blank b digit) (read rest ends) refl l }
   where
     digit_no_letter : (b : ℕ) → is_digit b ≡ true → is_letter b ≡ false

@@ -6,7 +6,7 @@ use Rattle.spec_text.specs.declared.token.Token.{Token}
 use Rattle.spec_text.specs.declared.token.Kind.{Kind}
 use Rattle.spec_text.specs.declared.lexeme.Lexeme.{Lexeme}
 use Rattle.spec_text.specs.Lexeme.{lexeme_of, token_bytes, lexemes}
-use Rattle.spec_text.specs.Lexis.{is_blank, Front, front, with_token, token_at, tokens_from}
+use Rattle.spec_text.specs.Lexis.{is_blank, Prefix, prefix, with_token, token_at, tokens_from}
 use Rattle.theory_text.proofs.Runs.{Stops}
 use Rattle.theory_text.proofs.Within.LexemeNames.{token_bytes-at, behind}
 
@@ -39,14 +39,15 @@ passed_over (b ∷ more) rest place =
     passed_over more rest (place + 1) ∙ ap (λ (n : ℕ). tokens_from n 0 rest) e
 
 -- a token at the front
-at_token : (place b : ℕ) (bytes : List ℕ) (f : Front) → is_blank b ≡ false → front b bytes ≡ Some f → tokens_from place 0 (b ∷ bytes) ≡ with_token (token_at place f) (tokens_from (place + 1) f.1 bytes)
+at_token : (place b : ℕ) (bytes : List ℕ) (f : Prefix) → is_blank b ≡ false → prefix b bytes ≡ Some f → tokens_from place 0 (b ∷ bytes)
+    ≡ with_token (token_at place f) (tokens_from (place + 1) f.1 bytes)
 at_token place b bytes f h e = rw (h, e) refl
 
 -- a token, and what is behind it
 pub says_token : (b : ℕ) (more rest : List ℕ) (k : Kind) (t : Lexeme) (said : List Lexeme) → is_blank b ≡ false
-    → (let f : Front = (k, length more) in front b (more ++ rest) ≡ Some f) → lexeme_of k (b ∷ more) ≡ t → Says rest said → Says ((b ∷ more) ++ rest) (t ∷ said)
+    → (let f : Prefix = (k, length more) in prefix b (more ++ rest) ≡ Some f) → lexeme_of k (b ∷ more) ≡ t → Says rest said → Says ((b ∷ more) ++ rest) (t ∷ said)
 says_token b more rest k t said h e is later text place at =
-    let f : Front = (k, length more) in
+    let f : Prefix = (k, length more) in
     let first : drop (place + 1) text ≡ more ++ rest = behind text place b (more ++ rest) at in
     let there : drop (place + 1 + length more) text ≡ rest = sym (drop-drop (length more) (place + 1) text) ∙ (ap (drop (length more)) first ∙ drop_at more rest (length more) refl) in
     let s = later text (place + 1 + length more) there in
@@ -95,14 +96,21 @@ pub closed_closed : {xs ys : List ℕ} {s t : List Lexeme} → Closed xs s → C
 closed_closed {xs} {ys} {s} {t} h k = record { says = λ rest later l. regroup xs ys rest s t later (h.says (ys ++ rest) (t ++ later) (k.says rest later l)) }
 
 pub closed_then : {xs ys : List ℕ} {s t : List Lexeme} → Closed xs s → Piece ys t → Piece (xs ++ ys) (s ++ t)
-closed_then {xs} {ys} {s} {t} h k = record { says = λ rest later ends l. regroup xs ys rest s t later (h.says (ys ++ rest) (t ++ later) (k.says rest later ends l)) }
+closed_then {xs} {ys} {s} {t} h k =
+    record { says = λ rest later ends l. regroup xs ys rest s t later (h.says (ys ++ rest) (t ++ later) (k.says rest later ends l)) }
 
 pub piece_then : {xs ys : List ℕ} {s t : List Lexeme} → Piece xs s → Piece ys t → Ends ys → Piece (xs ++ ys) (s ++ t)
-piece_then {xs} {ys} {s} {t} h k apart = record { says = λ rest later ends l. regroup xs ys rest s t later (h.says (ys ++ rest) (t ++ later) (ends_append ys rest apart ends) (k.says rest later ends l)) }
+piece_then {xs} {ys} {s} {t} h k apart =
+    record {
+      says = λ rest later ends l. regroup xs ys rest s t later
+          (h.says (ys ++ rest) (t ++ later) (ends_append ys rest apart ends) (k.says rest later ends l));
+    }
 
 -- a piece that ends in bytes that close it
-pub piece_closed : {xs : List ℕ} {b : ℕ} {ys : List ℕ} {s t : List Lexeme} → Piece xs s → Closed (b ∷ ys) t → is_name_byte b ≡ false → Closed (xs ++ b ∷ ys) (s ++ t)
-piece_closed {xs} {b} {ys} {s} {t} h k apart = record { says = λ rest later l. regroup xs (b ∷ ys) rest s t later (h.says (b ∷ (ys ++ rest)) (t ++ later) apart (k.says rest later l)) }
+pub piece_closed : {xs : List ℕ} {b : ℕ} {ys : List ℕ} {s t : List Lexeme} → Piece xs s → Closed (b ∷ ys) t → is_name_byte b ≡ false
+    → Closed (xs ++ b ∷ ys) (s ++ t)
+piece_closed {xs} {b} {ys} {s} {t} h k apart =
+    record { says = λ rest later l. regroup xs (b ∷ ys) rest s t later (h.says (b ∷ (ys ++ rest)) (t ++ later) apart (k.says rest later l)) }
 
 -- the tokens of a whole text
 pub whole : (text : List ℕ) (said : List Lexeme) → Piece text said → SaysAt text 0 text said

@@ -29,7 +29,12 @@ record FormulaSpelled (e : Expr) : Type 0 where
 formula_spelled : (e : Expr) → is_readable_formula e ≡ true → FormulaSpelled e
 formula_spelled (constant n) h = record { tokens = number n ∷ []; piece = number_piece n (omega (arith, le_is n greatest_constant h)); spells = refl }
 formula_spelled (length_of x) h =
-    record { tokens = symbol mark.Bar ∷ name x ∷ symbol mark.Bar ∷ []; piece = closed_then bar (piece_then (name_piece x h) (open_ended bar) refl); spells = refl }
+    record {
+      tokens = symbol mark.Bar ∷ name x ∷ symbol mark.Bar
+          ∷ [];
+      piece = closed_then bar (piece_then (name_piece x h) (open_ended bar) refl);
+      spells = refl;
+    }
 formula_spelled (plus e f) h =
     let s = formula_spelled e (and_left _ _ h) in
     let t = formula_spelled f (and_right _ _ h) in
@@ -70,11 +75,21 @@ test_spelled (negation p) h =
 test_spelled (equal e f) h =
     let s = formula_spelled e (and_left _ _ h) in
     let t = formula_spelled f (and_right _ _ h) in
-    record { tokens = s.tokens ++ symbol mark.Equal ∷ t.tokens; piece = piece_then s.piece (closed_then equal_spaced t.piece) refl; spells = (s.tokens, t.tokens, refl, s.spells, t.spells) }
+    record {
+      tokens = s.tokens ++ symbol mark.Equal
+          ∷ t.tokens;
+      piece = piece_then s.piece (closed_then equal_spaced t.piece) refl;
+      spells = (s.tokens, t.tokens, refl, s.spells, t.spells);
+    }
 test_spelled (less e f) h =
     let s = formula_spelled e (and_left _ _ h) in
     let t = formula_spelled f (and_right _ _ h) in
-    record { tokens = s.tokens ++ symbol mark.Less ∷ t.tokens; piece = piece_then s.piece (closed_then less_spaced t.piece) refl; spells = (s.tokens, t.tokens, refl, s.spells, t.spells) }
+    record {
+      tokens = s.tokens ++ symbol mark.Less
+          ∷ t.tokens;
+      piece = piece_then s.piece (closed_then less_spaced t.piece) refl;
+      spells = (s.tokens, t.tokens, refl, s.spells, t.spells);
+    }
 
 -- ---- conditions
 

@@ -14,7 +14,7 @@ use Rattle.spec_text.specs.declared.token.Keyword.TheVariants as word
 use Rattle.spec_text.specs.declared.lexeme.Lexeme.{Lexeme}
 use Rattle.spec_text.specs.declared.lexeme.Lexeme.TheVariants.{Keyword as keyword, Name as name}
 use Rattle.spec_text.specs.Lexeme.{fits_name, name_or_long, lexeme_of}
-use Rattle.spec_text.specs.Lexis.{is_blank, keywords, word_in, name_kind, kind_or_name, word_kind, Front, word_front, front}
+use Rattle.spec_text.specs.Lexis.{is_blank, keywords, word_in, name_kind, kind_or_name, word_kind, Prefix, word_prefix, prefix}
 use Rattle.theory_text.proofs.ListFacts.{and_is, and_left, and_right, or_left, or_right, not_yes, bytes_ne-back}
 use Rattle.theory_text.proofs.Within.ReadWithin.{le_yes}
 use Rattle.theory_text.proofs.Runs.{run_append}
@@ -26,24 +26,28 @@ use Rattle.theory_text.proofs.Printed.Marks.{space}
 letter_no_blank : (b : ℕ) → is_letter b ≡ true → is_blank b ≡ false
 letter_no_blank b h = grind (arith, nat_tests)
 
-abbrev some_front : Kind → ℕ → Option Front
-some_front k n = Some (k, n)
+abbrev some_prefix : Kind → ℕ → Option Prefix
+some_prefix k n = Some (k, n)
 
-word_at_front : (b : ℕ) (more rest : List ℕ) → list_all is_name_byte more ≡ true → Ends rest → word_front b (more ++ rest) ≡ (word_kind (b ∷ more), length more)
-unfolding word_front
-word_at_front b more rest h ends = ap (λ (run : List ℕ). let f : Front = (word_kind (b ∷ run), length run) in f) (run_append is_name_byte more rest h ends)
+word_at_prefix : (b : ℕ) (more rest : List ℕ) → list_all is_name_byte more ≡ true → Ends rest → word_prefix b (more ++ rest)
+    ≡ (word_kind (b ∷ more), length more)
+unfolding word_prefix
+word_at_prefix b more rest h ends = ap (λ (run : List ℕ). let f : Prefix = (word_kind (b ∷ run), length run) in f) (run_append is_name_byte more rest h ends)
 
-front_letter : (b : ℕ) (bytes : List ℕ) → is_letter b ≡ true → front b bytes ≡ Some (word_front b bytes)
-front_letter b bytes h = rw h refl
+prefix_letter : (b : ℕ) (bytes : List ℕ) → is_letter b ≡ true → prefix b bytes ≡ Some (word_prefix b bytes)
+prefix_letter b bytes h = rw h refl
 
-front_is : (b : ℕ) (more rest : List ℕ) (k : Kind) → is_letter b ≡ true → list_all is_name_byte more ≡ true → word_kind (b ∷ more) ≡ k → Ends rest → front b (more ++ rest) ≡ some_front k (length more)
-front_is b more rest k letter h is ends =
-    front_letter b (more ++ rest) letter ∙ (ap (λ (f : Front). Some f) (word_at_front b more rest h ends) ∙ ap (λ (j : Kind). some_front j (length more)) is)
+prefix_is : (b : ℕ) (more rest : List ℕ) (k : Kind) → is_letter b ≡ true → list_all is_name_byte more ≡ true → word_kind (b ∷ more) ≡ k
+    → Ends rest → prefix b (more ++ rest) ≡ some_prefix k (length more)
+prefix_is b more rest k letter h is ends =
+    prefix_letter b (more ++ rest) letter ∙ (ap (λ (f : Prefix). Some f) (word_at_prefix b more rest h ends)
+    ∙ ap (λ (j : Kind). some_prefix j (length more)) is)
 
 -- a word whose kind is known
-word_piece : (b : ℕ) (more : List ℕ) (k : Kind) (t : Lexeme) → is_letter b ≡ true → list_all is_name_byte more ≡ true → word_kind (b ∷ more) ≡ k → lexeme_of k (b ∷ more) ≡ t → Piece (b ∷ more) (t ∷ [])
+word_piece : (b : ℕ) (more : List ℕ) (k : Kind) (t : Lexeme) → is_letter b ≡ true → list_all is_name_byte more ≡ true → word_kind (b ∷ more)
+    ≡ k → lexeme_of k (b ∷ more) ≡ t → Piece (b ∷ more) (t ∷ [])
 word_piece b more k t letter h is say =
-    record { says = λ rest later ends l. says_token b more rest k t later (letter_no_blank b letter) (front_is b more rest k letter h is ends) say l }
+    record { says = λ rest later ends l. says_token b more rest k t later (letter_no_blank b letter) (prefix_is b more rest k letter h is ends) say l }
 
 -- ---- names
 
@@ -74,7 +78,8 @@ name_piece (b ∷ more) h =
 
 -- ---- keywords
 
-keyword_piece : (b : ℕ) (more : List ℕ) (k : Keyword) → is_letter b ≡ true → list_all is_name_byte more ≡ true → word_in keywords (b ∷ more) ≡ Some k → Piece (b ∷ more) (keyword k ∷ [])
+keyword_piece : (b : ℕ) (more : List ℕ) (k : Keyword) → is_letter b ≡ true → list_all is_name_byte more ≡ true → word_in keywords (b ∷ more)
+    ≡ Some k → Piece (b ∷ more) (keyword k ∷ [])
 keyword_piece b more k letter h is = word_piece b more (kind.Keyword k) (keyword k) letter h (ap (kind_or_name (b ∷ more)) is) refl
 
 -- a word before a space

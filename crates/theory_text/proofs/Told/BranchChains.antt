@@ -23,8 +23,9 @@ Auth party b = Seq (As (that (symbol mark.Colon))) (λ u. Seq (BranchText b) (λ
 
 pub auth_to : (party : List ℕ) (b : ℕ) (t : List Lexeme) (v : Guarded × ℕ) → Auth party b t v → Behind (name party) (BranchText b) t v
 auth_to party b t v s =
-    let is : t ≡ symbol mark.Colon ∷ s.back.first = s.parts ∙ rw (s.front.single, s.back.parts, s.back.back.empty, append-nil s.back.first) refl in
-    subst (Behind (name party) (BranchText b) t) s.back.back.same ((s.back.first, ap (λ (u : List Lexeme). name party ∷ u) is, s.back.front.0), s.back.front.1)
+    let is : t ≡ symbol mark.Colon ∷ s.back.first = s.parts ∙ rw (s.prefix.single, s.back.parts, s.back.back.empty, append-nil s.back.first) refl in
+    subst (Behind (name party) (BranchText b) t) s.back.back.same
+    ((s.back.first, ap (λ (u : List Lexeme). name party ∷ u) is, s.back.prefix.0), s.back.prefix.1)
 
 auth_of : (party : List ℕ) (b : ℕ) (t : List Lexeme) (g : Guarded) (n : ℕ) → SpellsBranch (name party ∷ t) g → n ≡ b - count_under g → Auth party b t (g, n)
 auth_of party b t (auth p body) n l e =
@@ -35,8 +36,16 @@ auth_of party b t (auth p body) n l e =
       second = l.0;
       value = tt;
       parts = cc;
-      front = record { single = refl };
-      back = record { first = l.0; second = []; value = (body, n); parts = sym (append-nil l.0); front = (l.2, e); back = record { empty = refl; same = ap (λ (z : List ℕ). (auth z body, n)) same } };
+      prefix = record { single = refl };
+      back = record {
+        first = l.0;
+        second = [];
+        value = (body, n);
+        parts = sym
+            (append-nil l.0);
+        prefix = (l.2, e);
+        back = record { empty = refl; same = ap (λ (z : List ℕ). (auth z body, n)) same };
+      };
     }
 auth_of party b t (after height body) n l e = let k = l.1 in absurd cc
 auth_of party b t (put_reveal puts reveals test next) n l e = let k = (headed (name party) t l.0 l.1 puts reveals test l.2 l.3).3 in absurd cc
@@ -54,8 +63,8 @@ After b = Seq (As numbered) (λ h. Seq (As (that (symbol mark.Colon))) (λ u. Se
 pub after_to : (b : ℕ) (t : List Lexeme) (v : Guarded × ℕ) → After b t v → Behind (keyword word.After) (BranchText b) t v
 after_to b t v s =
     let r = s.back.back in
-    let is : t ≡ number s.value ∷ symbol mark.Colon ∷ r.first = s.parts ∙ rw (s.front.single, s.back.parts, s.back.front.single, r.parts, r.back.empty, append-nil r.first) refl in
-    subst (Behind (keyword word.After) (BranchText b) t) r.back.same ((r.first, ap (λ (u : List Lexeme). keyword word.After ∷ u) is, r.front.0), r.front.1)
+    let is : t ≡ number s.value ∷ symbol mark.Colon ∷ r.first = s.parts ∙ rw (s.prefix.single, s.back.parts, s.back.prefix.single, r.parts, r.back.empty, append-nil r.first) refl in
+    subst (Behind (keyword word.After) (BranchText b) t) r.back.same ((r.first, ap (λ (u : List Lexeme). keyword word.After ∷ u) is, r.prefix.0), r.prefix.1)
 
 after_of : (b : ℕ) (t : List Lexeme) (g : Guarded) (n : ℕ) → SpellsBranch (keyword word.After ∷ t) g → n ≡ b - count_under g → After b t (g, n)
 after_of b t (auth p body) n l e = let k = l.1 in absurd cc
@@ -64,14 +73,14 @@ after_of b t (after height body) n l e = record {
   second = symbol mark.Colon ∷ l.0;
   value = height;
   parts = tail_is (keyword word.After) (keyword word.After) t _ l.1;
-  front = record { single = refl };
+  prefix = record { single = refl };
   back = record {
     first = symbol mark.Colon ∷ [];
     second = l.0;
     value = tt;
     parts = refl;
-    front = record { single = refl };
-    back = record { first = l.0; second = []; value = (body, n); parts = sym (append-nil l.0); front = (l.2, e); back = record { empty = refl; same = refl } };
+    prefix = record { single = refl };
+    back = record { first = l.0; second = []; value = (body, n); parts = sym (append-nil l.0); prefix = (l.2, e); back = record { empty = refl; same = refl } };
   };
 }
 after_of b t (put_reveal puts reveals test next) n l e = let k = (headed (keyword word.After) t l.0 l.1 puts reveals test l.2 l.3).3 in absurd cc
@@ -93,15 +102,19 @@ Put b = Seq Puts (Headed b)
 abbrev pub Reveal : ℕ → List Lexeme → Guarded × ℕ → Type 0
 Reveal b = Seq (Reveals []) (Headed b)
 
-headed_to : (c : Lexeme) (H : List Lexeme → Heading → Type 0) → ((t : List Lexeme) (h : Heading) → H t h → HeadedBy c t h) → (b : ℕ) (t : List Lexeme) (v : Guarded × ℕ) → Seq H (Headed b) t v → Behind c (BranchText b) t v
+headed_to : (c : Lexeme) (H : List Lexeme → Heading → Type 0) → ((t : List Lexeme) (h : Heading) → H t h → HeadedBy c t h)
+    → (b : ℕ) (t : List Lexeme) (v : Guarded × ℕ) → Seq H (Headed b) t v → Behind c (BranchText b) t v
 headed_to c H to b t v s =
-    let h = to s.first s.value s.front in
+    let h = to s.first s.value s.prefix in
     let is : t ≡ s.first ++ s.back.first = s.parts ∙ rw (s.back.parts, s.back.back.empty, append-nil s.back.first) refl in
     let whole : c ∷ t ≡ h.0 ++ symbol mark.Dot ∷ s.back.first = ap (λ (u : List Lexeme). c ∷ u) is ∙ ap (λ (u : List Lexeme). u ++ s.back.first) h.1 ∙ append_assoc h.0 (symbol mark.Dot ∷ []) s.back.first in
-    subst (Behind c (BranchText b) t) s.back.back.same ((h.0, s.back.first, whole, h.2, s.back.front.0), s.back.front.1)
+    subst (Behind c (BranchText b) t) s.back.back.same ((h.0, s.back.first, whole, h.2, s.back.prefix.0), s.back.prefix.1)
 
-headed_of : (c : Lexeme) (H : List Lexeme → Heading → Type 0) → ((th : List Lexeme) (puts reveals : List (List ℕ)) (test : Pred) → SpellsHeading (c ∷ th) puts reveals test → H (th ++ symbol mark.Dot ∷ []) (puts, reveals, test))
-    → (b : ℕ) (t th tn : List Lexeme) (puts reveals : List (List ℕ)) (test : Pred) (next : Contract) (n : ℕ) → c ∷ t ≡ th ++ symbol mark.Dot ∷ tn → SpellsHeading th puts reveals test → SpellsChoice tn next → n ≡ b - count_of next
+headed_of : (c : Lexeme) (H : List Lexeme → Heading → Type 0)
+    → ((th : List Lexeme) (puts reveals : List (List ℕ)) (test : Pred) → SpellsHeading (c ∷ th) puts reveals test
+    → H (th ++ symbol mark.Dot ∷ []) (puts, reveals, test))
+    → (b : ℕ) (t th tn : List Lexeme) (puts reveals : List (List ℕ)) (test : Pred) (next : Contract) (n : ℕ) → c ∷ t ≡ th ++ symbol mark.Dot
+    ∷ tn → SpellsHeading th puts reveals test → SpellsChoice tn next → n ≡ b - count_of next
     → Seq H (Headed b) t (put_reveal puts reveals test next, n)
 headed_of c H from b t th tn puts reveals test next n is l k e =
     let h = headed c t th tn puts reveals test is l in
@@ -110,8 +123,8 @@ headed_of c H from b t th tn puts reveals test next n is l k e =
       second = tn;
       value = (puts, reveals, test);
       parts = h.1 ∙ sym (append_assoc h.0 (symbol mark.Dot ∷ []) tn);
-      front = from h.0 puts reveals test h.2;
-      back = record { first = tn; second = []; value = (next, n); parts = sym (append-nil tn); front = (k, e); back = record { empty = refl; same = refl } };
+      prefix = from h.0 puts reveals test h.2;
+      back = record { first = tn; second = []; value = (next, n); parts = sym (append-nil tn); prefix = (k, e); back = record { empty = refl; same = refl } };
     }
 
 pub puts_to : (b : ℕ) (t : List Lexeme) (v : Guarded × ℕ) → Put b t v → Behind (keyword word.Put) (BranchText b) t v
@@ -133,7 +146,8 @@ reveals_to b t v s = headed_to (keyword word.Reveal) (Reveals []) reveal_to b t 
 reveals_of : (b : ℕ) (t : List Lexeme) (g : Guarded) (n : ℕ) → SpellsBranch (keyword word.Reveal ∷ t) g → n ≡ b - count_under g → Reveal b t (g, n)
 reveals_of b t (auth p body) n l e = let k = l.1 in absurd cc
 reveals_of b t (after height body) n l e = let k = l.1 in absurd cc
-reveals_of b t (put_reveal puts reveals test next) n l e = headed_of (keyword word.Reveal) (Reveals []) reveal_from b t l.0 l.1 puts reveals test next n l.2 l.3 l.4 e
+reveals_of b t (put_reveal puts reveals test next) n l e =
+    headed_of (keyword word.Reveal) (Reveals []) reveal_from b t l.0 l.1 puts reveals test next n l.2 l.3 l.4 e
 reveals_of b t (withdraw p) n l e = absurd cc
 reveals_of b t (split parts) n l e = let k = l.1 in absurd cc
 
@@ -147,7 +161,7 @@ Withdraw b = Seq (As named) (λ x. Nothing (withdraw x, b))
 
 pub withdraw_to : (b : ℕ) (t : List Lexeme) (v : Guarded × ℕ) → Withdraw b t v → Behind (keyword word.Withdraw) (BranchText b) t v
 withdraw_to b t v s =
-    let is : t ≡ name s.value ∷ [] = s.parts ∙ rw (s.front.single, s.back.empty) refl in
+    let is : t ≡ name s.value ∷ [] = s.parts ∙ rw (s.prefix.single, s.back.empty) refl in
     subst (Behind (keyword word.Withdraw) (BranchText b) t) s.back.same (ap (λ (u : List Lexeme). keyword word.Withdraw ∷ u) is, omega arith)
 
 withdraw_of : (b : ℕ) (t : List Lexeme) (g : Guarded) (n : ℕ) → SpellsBranch (keyword word.Withdraw ∷ t) g → n ≡ b - count_under g → Withdraw b t (g, n)
@@ -156,7 +170,15 @@ withdraw_of b t (after height body) n l e = let k = l.1 in absurd cc
 withdraw_of b t (put_reveal puts reveals test next) n l e = let k = (headed (keyword word.Withdraw) t l.0 l.1 puts reveals test l.2 l.3).3 in absurd cc
 withdraw_of b t (withdraw p) n l e =
     let same : b ≡ n = omega (arith, e) in
-    record { first = name p ∷ []; second = []; value = p; parts = tail_is (keyword word.Withdraw) (keyword word.Withdraw) t _ l; front = record { single = refl }; back = record { empty = refl; same = ap (λ (z : ℕ). (withdraw p, z)) same } }
+    record {
+      first = name p ∷ [];
+      second = [];
+      value = p;
+      parts = tail_is (keyword word.Withdraw) (keyword word.Withdraw) t _
+          l;
+      prefix = record { single = refl };
+      back = record { empty = refl; same = ap (λ (z : ℕ). (withdraw p, z)) same };
+    }
 withdraw_of b t (split parts) n l e = let k = l.1 in absurd cc
 
 pub withdraw_from : (b : ℕ) (t : List Lexeme) (v : Guarded × ℕ) → Behind (keyword word.Withdraw) (BranchText b) t v → Withdraw b t v
@@ -169,10 +191,10 @@ Split b = Seq (As (that (symbol mark.LeftBracket))) (λ u. Seq (PartsText b) (λ
 
 pub split_to : (b : ℕ) (t : List Lexeme) (v : Guarded × ℕ) → Split b t v → Behind (keyword word.Split) (BranchText b) t v
 split_to b t v s =
-    let p = s.back.front.0 in
-    let is : t ≡ symbol mark.LeftBracket ∷ s.back.first = s.parts ∙ rw (s.front.single, s.back.parts, s.back.back.empty, append-nil s.back.first) refl in
+    let p = s.back.prefix.0 in
+    let is : t ≡ symbol mark.LeftBracket ∷ s.back.first = s.parts ∙ rw (s.prefix.single, s.back.parts, s.back.back.empty, append-nil s.back.first) refl in
     let whole : keyword word.Split ∷ t ≡ keyword word.Split ∷ symbol mark.LeftBracket ∷ (p.0 ++ symbol mark.RightBracket ∷ []) = ap (λ (u : List Lexeme). keyword word.Split ∷ u) is ∙ ap (λ (u : List Lexeme). keyword word.Split ∷ symbol mark.LeftBracket ∷ u) p.1 in
-    subst (Behind (keyword word.Split) (BranchText b) t) s.back.back.same ((p.0, whole, p.2), s.back.front.1)
+    subst (Behind (keyword word.Split) (BranchText b) t) s.back.back.same ((p.0, whole, p.2), s.back.prefix.1)
 
 split_of : (b : ℕ) (t : List Lexeme) (g : Guarded) (n : ℕ) → SpellsBranch (keyword word.Split ∷ t) g → n ≡ b - count_under g → Split b t (g, n)
 split_of b t (auth p body) n l e = let k = l.1 in absurd cc
@@ -184,8 +206,17 @@ split_of b t (split parts) n l e = record {
   second = l.0 ++ symbol mark.RightBracket ∷ [];
   value = tt;
   parts = tail_is (keyword word.Split) (keyword word.Split) t _ l.1;
-  front = record { single = refl };
-  back = record { first = l.0 ++ symbol mark.RightBracket ∷ []; second = []; value = (parts, n); parts = sym (append-nil (l.0 ++ symbol mark.RightBracket ∷ [])); front = ((l.0, refl, l.2), e); back = record { empty = refl; same = refl } };
+  prefix = record { single = refl };
+  back = record {
+    first = l.0 ++ symbol mark.RightBracket
+        ∷ [];
+    second = [];
+    value = (parts, n);
+    parts = sym
+        (append-nil (l.0 ++ symbol mark.RightBracket ∷ []));
+    prefix = ((l.0, refl, l.2), e);
+    back = record { empty = refl; same = refl };
+  };
 }
 
 pub split_from : (b : ℕ) (t : List Lexeme) (v : Guarded × ℕ) → Behind (keyword word.Split) (BranchText b) t v → Split b t v

@@ -85,7 +85,8 @@ choice_nothing (branch g bs) (inl w) = branch_nothing g w.0
 choice_nothing (branch g bs) (inr w) = let k = w.2 in absurd cc
 
 choice_part : (n : ℕ) → ((b : ℕ) → Clear_to (suc n) (BranchText b)) → (b : ℕ) (c : Lexeme) → Clear_to n (Behind c (ChoiceText b))
-choice_part n h b (symbol mark.LeftParen) = clear_from (Behind (symbol mark.LeftParen) (ChoiceText b)) (opened_from b) (branches_to_clear (suc n) h n (omega arith) b)
+choice_part n h b (symbol mark.LeftParen) =
+    clear_from (Behind (symbol mark.LeftParen) (ChoiceText b)) (opened_from b) (branches_to_clear (suc n) h n (omega arith) b)
 choice_part n h b c = clear_from (Behind c (ChoiceText b)) (λ t v l. one_from b c t v refl l) (clear_behind c (one_clear (suc n) b (h (b - 1))))
 
 choice_to_clear : (n : ℕ) → ((b : ℕ) → Clear_to n (BranchText b)) → (b : ℕ) → Clear_to n (ChoiceText b)
@@ -104,8 +105,11 @@ as_nothing tok a l = let k = l.single in absurd cc
 parts_to_clear : (n : ℕ) → ((b : ℕ) → Clear_to n (ChoiceText b)) → (m : ℕ) → m ≤ n → (b : ℕ) → Clear_to m (PartsText b)
 parts_to_clear n h zero le b = clear_zero (PartsText b) (λ v l. parts_nothing (v.0) (l.0))
 parts_to_clear n h (suc m) le b = clear_from (PartsText b) (parts_from b)
-    (clear_after (As numbered) (λ v. Seq (As (that (symbol mark.Arrow))) (λ u. Seq (ChoiceText b) (λ c. Seq (As comma_token) (PartsRest v c)))) (as_nothing numbered) (clear_to (clear_as (the_number max_money)))
-    (λ v. clear_seq (clear_to (clear_as (the_symbol mark.Arrow refl))) (λ u. clear_seq (clear_less m (omega arith) (h b)) (λ c. clear_seq (clear_to (clear_as the_comma)) (parts_rest m v c (parts_to_clear n h m (omega arith) (c.1)))))))
+    (clear_after (As numbered) (λ v. Seq (As (that (symbol mark.Arrow)))
+    (λ u. Seq (ChoiceText b) (λ c. Seq (As comma_token) (PartsRest v c)))) (as_nothing numbered) (clear_to (clear_as (the_number max_money)))
+    (λ v. clear_seq (clear_to (clear_as (the_symbol mark.Arrow refl)))
+    (λ u. clear_seq (clear_less m (omega arith) (h b))
+    (λ c. clear_seq (clear_to (clear_as the_comma)) (parts_rest m v c (parts_to_clear n h m (omega arith) (c.1)))))))
 
 -- ---- branches
 
@@ -121,7 +125,8 @@ branch_part n h b (name party) = clear_from (Behind (name party) (BranchText b))
     (clear_seq (clear_to (clear_as (the_symbol mark.Colon refl))) (λ u. clear_seq (h b) (λ g. clear_pure (auth party (g.0), g.1))))
 branch_part n h b long_name = clear_none (Behind long_name (BranchText b)) (λ t v l. no_long t (v.0) (l.0))
 branch_part n h b (keyword word.After) = clear_from (Behind (keyword word.After) (BranchText b)) (after_from b)
-    (clear_seq (clear_to (clear_as (the_number last_height))) (λ k. clear_seq (clear_to (clear_as (the_symbol mark.Colon refl))) (λ u. clear_seq (h b) (λ g. clear_pure (after k (g.0), g.1)))))
+    (clear_seq (clear_to (clear_as (the_number last_height)))
+    (λ k. clear_seq (clear_to (clear_as (the_symbol mark.Colon refl))) (λ u. clear_seq (h b) (λ g. clear_pure (after k (g.0), g.1)))))
 branch_part n h b (keyword word.Put) = clear_from (Behind (keyword word.Put) (BranchText b)) (puts_from b)
     (clear_seq (clear_to puts_clear) (λ k. clear_seq (choice_to_clear n h b) (λ c. clear_pure (put_reveal (k.0) (k.1) (k.2) (c.0), c.1))))
 branch_part n h b (keyword word.Reveal) = clear_from (Behind (keyword word.Reveal) (BranchText b)) (reveals_from b)
@@ -129,7 +134,8 @@ branch_part n h b (keyword word.Reveal) = clear_from (Behind (keyword word.Revea
 branch_part n h b (keyword word.Withdraw) = clear_from (Behind (keyword word.Withdraw) (BranchText b)) (withdraw_from b)
     (clear_seq (clear_to (clear_as the_name)) (λ x. clear_pure (withdraw x, b)))
 branch_part n h b (keyword word.Split) = clear_from (Behind (keyword word.Split) (BranchText b)) (split_from b)
-    (clear_seq (clear_to (clear_as (the_symbol mark.LeftBracket refl))) (λ u. clear_seq (parts_to_clear n (choice_to_clear n h) n (omega arith) b) (λ p. clear_pure (split (p.0), p.1))))
+    (clear_seq (clear_to (clear_as (the_symbol mark.LeftBracket refl)))
+    (λ u. clear_seq (parts_to_clear n (choice_to_clear n h) n (omega arith) b) (λ p. clear_pure (split (p.0), p.1))))
 branch_part n h b c = clear_none (Behind c (BranchText b)) (λ t v l. branch_first c t (v.0) (l.0) refl)
 
 branch_to_clear : (n : ℕ) (b : ℕ) → Clear_to n (BranchText b)

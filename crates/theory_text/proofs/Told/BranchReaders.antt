@@ -37,7 +37,12 @@ branch_begun_at : (b : ℕ) → Begun begins_branch (BranchText b)
 branch_begun_at b = counted_begun count_under SpellsBranch b branch_begun
 
 an_allowed : (read : BranchReader) → ExactBranches read → (w : Option Limit) (b : ℕ) → Exact (BranchText (b - 1)) (allowed_branch read w b)
-an_allowed read h (Some w) b = record { some = counted_some count_under SpellsBranch (b - 1) some_branch; tells = λ ts. stops_first begins_branch (BranchText (b - 1)) (branch_begun_at (b - 1)) w ts }
+an_allowed read h (Some w) b =
+    record {
+      some = counted_some count_under SpellsBranch (b - 1) some_branch;
+      tells = λ ts. stops_first begins_branch (BranchText (b - 1))
+          (branch_begun_at (b - 1)) w ts;
+    }
 an_allowed read h None b = h (b - 1)
 
 -- where no branch of a choice may come
@@ -50,7 +55,9 @@ branches_stop : (read : BranchReader) (d b : ℕ) (ts : List Lexeme) → Tells (
 unfolding branches_at
 branches_stop read d b ts =
     let w = full (d == 0) (b == 0) in
-    subst (λ (o : Option Limit). Tells (BranchesText b) ts (allowed_branch read o b ts >>= λ g. Ok ((branch (g.0.0) no_branch, g.0.1), g.1))) (sym w.1) (stops_first begins_branch (BranchesText b) (counted_begun count_of Branches b branches_begun) w.0 ts)
+    subst (λ (o : Option Limit). Tells (BranchesText b) ts
+    (allowed_branch read o b ts >>= λ g. Ok ((branch (g.0.0) no_branch, g.0.1), g.1))) (sym w.1)
+    (stops_first begins_branch (BranchesText b) (counted_begun count_of Branches b branches_begun) w.0 ts)
 
 abbrev rest_at : BranchReader → ℕ → ℕ → Guarded × ℕ → Bool → List Lexeme → Reads (Contract × ℕ)
 rest_at read d k g o ts = elim o [
@@ -58,7 +65,8 @@ rest_at read d k g o ts = elim o [
   | false ↦ Ok ((branch (g.0) no_branch, g.1), ts)
 ]
 
-a_rest : (read : BranchReader) (d k : ℕ) (g : Guarded × ℕ) → Exact (BranchesText (g.1)) (branches_at read d k (g.1)) → (o : Bool) → Exact (BranchesRest g o) (rest_at read d k g o)
+a_rest : (read : BranchReader) (d k : ℕ) (g : Guarded × ℕ) → Exact (BranchesText (g.1)) (branches_at read d k (g.1)) → (o : Bool)
+    → Exact (BranchesRest g o) (rest_at read d k g o)
 a_rest read d k g h true = seq (branches_clear (g.1)) h (λ r t l. pure (branch (g.0) (r.0), r.1))
 a_rest read d k g h false = pure (branch (g.0) no_branch, g.1)
 
@@ -85,8 +93,12 @@ not_open c d h st = subst (λ (z : Lexeme). opens z ≡ false) st h
 choice_told : (read : BranchReader) → ExactBranches read → (d b : ℕ) (ts : List Lexeme) → Tells (ChoiceText b) ts (choice_with read d b ts)
 unfolding choice_with
 choice_told read h d b [] = record { told = ended_told (ChoiceText b) (λ v l. choice_nothing (v.0) (l.0)) (counted_some count_of SpellsChoice b some_choice) }
-choice_told read h d b (symbol mark.LeftParen ∷ ts) = behind (symbol mark.LeftParen) (ChoiceText b) ts (branches_at read d most_choices b ts) ((transfer (Behind (symbol mark.LeftParen) (ChoiceText b)) (opened_to b) (opened_from b) (branches_exact read h d most_choices b)).tells ts)
-choice_told read h d b (c ∷ ts) = narrow (OneSeq b) (ChoiceText b) opens c ts (λ e st. not_open c e refl st) (one_to b) (λ e t v k l. one_from b e t v k l) (one_branch_at read d b (c ∷ ts)) ((one_exact read h d b).tells (c ∷ ts))
+choice_told read h d b (symbol mark.LeftParen ∷ ts) =
+    behind (symbol mark.LeftParen) (ChoiceText b) ts (branches_at read d most_choices b ts)
+    ((transfer (Behind (symbol mark.LeftParen) (ChoiceText b)) (opened_to b) (opened_from b) (branches_exact read h d most_choices b)).tells ts)
+choice_told read h d b (c ∷ ts) =
+    narrow (OneSeq b) (ChoiceText b) opens c ts (λ e st. not_open c e refl st) (one_to b) (λ e t v k l. one_from b e t v k l)
+    (one_branch_at read d b (c ∷ ts)) ((one_exact read h d b).tells (c ∷ ts))
 
 -- contracts are read exactly, if branches are
 pub choice_exact : (read : BranchReader) → ExactBranches read → (d : ℕ) → ExactChoices (choice_with read d)
@@ -100,7 +112,8 @@ parts_rest_at read k v c o ts = elim o [
   | false ↦ Ok ((part v (c.0) no_part, c.1), ts)
 ]
 
-a_parts_rest : (read : ChoiceReader) (k v : ℕ) (c : Contract × ℕ) → Exact (PartsText (c.1)) (parts_at read k (c.1)) → (o : Bool) → Exact (PartsRest v c o) (parts_rest_at read k v c o)
+a_parts_rest : (read : ChoiceReader) (k v : ℕ) (c : Contract × ℕ) → Exact (PartsText (c.1)) (parts_at read k (c.1)) → (o : Bool)
+    → Exact (PartsRest v c o) (parts_rest_at read k v c o)
 a_parts_rest read k v c h true = seq (parts_clear (c.1)) h (λ r t l. pure (part v (c.0) (r.0), r.1))
 a_parts_rest read k v c h false = pure (part v (c.0) no_part, c.1)
 
@@ -144,11 +157,13 @@ put_exact read h b = transfer (Behind (keyword word.Put) (BranchText b)) (puts_t
 
 reveal_exact : (read : ChoiceReader) → ExactChoices read → (b : ℕ) → Exact (Behind (keyword word.Reveal) (BranchText b)) (reveal_at read b)
 unfolding reveal_at
-reveal_exact read h b = transfer (Behind (keyword word.Reveal) (BranchText b)) (reveals_to b) (reveals_from b) (seq (reveals_clear []) (a_reveal []) (λ k t l. headed_exact read h k b))
+reveal_exact read h b = transfer (Behind (keyword word.Reveal) (BranchText b)) (reveals_to b) (reveals_from b)
+    (seq (reveals_clear []) (a_reveal []) (λ k t l. headed_exact read h k b))
 
 withdraw_exact : (b : ℕ) → Exact (Behind (keyword word.Withdraw) (BranchText b)) (withdraw_at b)
 unfolding withdraw_at
-withdraw_exact b = transfer (Behind (keyword word.Withdraw) (BranchText b)) (withdraw_to b) (withdraw_from b) (seq (clear_as the_name) (token the_name) (λ x t l. pure (withdraw x, b)))
+withdraw_exact b = transfer (Behind (keyword word.Withdraw) (BranchText b)) (withdraw_to b) (withdraw_from b)
+    (seq (clear_as the_name) (token the_name) (λ x t l. pure (withdraw x, b)))
 
 split_exact : (read : ChoiceReader) → ExactChoices read → (b : ℕ) → Exact (Behind (keyword word.Split) (BranchText b)) (split_at read b)
 unfolding split_at
@@ -165,11 +180,18 @@ unfolding branch_at
 branch_step d h b [] = ended begins_branch (BranchText b) (branch_begun_at b)
 branch_step d h b (name party ∷ ts) = behind (name party) (BranchText b) ts (auth_at (branch_at d) party b ts) ((auth_exact (branch_at d) h party b).tells ts)
 branch_step d h b (long_name ∷ ts) = exceeded_first (BranchText b) long_name (name []) ts limits.Name tt (after_some [] b)
-branch_step d h b (keyword word.After ∷ ts) = behind (keyword word.After) (BranchText b) ts (after_at (branch_at d) b ts) ((after_exact (branch_at d) h b).tells ts)
-branch_step d h b (keyword word.Put ∷ ts) = behind (keyword word.Put) (BranchText b) ts (put_at (choice_with (branch_at d) d) b ts) ((put_exact (choice_with (branch_at d) d) (choice_exact (branch_at d) h d) b).tells ts)
-branch_step d h b (keyword word.Reveal ∷ ts) = behind (keyword word.Reveal) (BranchText b) ts (reveal_at (choice_with (branch_at d) d) b ts) ((reveal_exact (choice_with (branch_at d) d) (choice_exact (branch_at d) h d) b).tells ts)
+branch_step d h b (keyword word.After ∷ ts) =
+    behind (keyword word.After) (BranchText b) ts (after_at (branch_at d) b ts) ((after_exact (branch_at d) h b).tells ts)
+branch_step d h b (keyword word.Put ∷ ts) =
+    behind (keyword word.Put) (BranchText b) ts (put_at (choice_with (branch_at d) d) b ts)
+    ((put_exact (choice_with (branch_at d) d) (choice_exact (branch_at d) h d) b).tells ts)
+branch_step d h b (keyword word.Reveal ∷ ts) =
+    behind (keyword word.Reveal) (BranchText b) ts (reveal_at (choice_with (branch_at d) d) b ts)
+    ((reveal_exact (choice_with (branch_at d) d) (choice_exact (branch_at d) h d) b).tells ts)
 branch_step d h b (keyword word.Withdraw ∷ ts) = behind (keyword word.Withdraw) (BranchText b) ts (withdraw_at b ts) ((withdraw_exact b).tells ts)
-branch_step d h b (keyword word.Split ∷ ts) = behind (keyword word.Split) (BranchText b) ts (split_at (choice_with (branch_at d) d) b ts) ((split_exact (choice_with (branch_at d) d) (choice_exact (branch_at d) h d) b).tells ts)
+branch_step d h b (keyword word.Split ∷ ts) =
+    behind (keyword word.Split) (BranchText b) ts (split_at (choice_with (branch_at d) d) b ts)
+    ((split_exact (choice_with (branch_at d) d) (choice_exact (branch_at d) h d) b).tells ts)
 branch_step d h b (c ∷ ts) = wrong_first begins_branch (BranchText b) (branch_begun_at b) c ts refl
 
 branch_zero : (b : ℕ) (ts : List Lexeme) → Tells (BranchText b) ts (branch_at 0 b ts)

@@ -125,7 +125,8 @@ branches_short : (tb tm : List Lexeme) (g : Guarded) → [] ≡ tb ++ (tm ++ sym
 branches_short [] tm g is l = branch_nothing g l
 branches_short (x ∷ tb) tm g is l = absurd cc
 
-branches_start : (d : Lexeme) (t tb tm : List Lexeme) (g : Guarded) → d ∷ t ≡ tb ++ (tm ++ symbol mark.RightParen ∷ []) → SpellsBranch tb g → begins_branch d ≡ wrong → ⊥
+branches_start : (d : Lexeme) (t tb tm : List Lexeme) (g : Guarded) → d ∷ t ≡ tb ++ (tm ++ symbol mark.RightParen ∷ []) → SpellsBranch tb g
+    → begins_branch d ≡ wrong → ⊥
 branches_start d t [] tm g is l h = branch_nothing g l
 branches_start d t (x ∷ tb) tm g is l h = branch_first x tb g l (not_wrong begins_branch d x t _ is h)
 
@@ -138,7 +139,8 @@ branches_first d t no_branch l h = l
 branches_first d t (branch g bs) l h = branches_start d t l.0 l.1 g l.2 l.3 h
 
 branches_behind : (c : Lexeme) → Some_text (Behind c SpellsBranch) → Some_text (Behind c Branches)
-branches_behind c s = record { text = s.text ++ symbol mark.RightParen ∷ []; value = branch s.value no_branch; spelled = (c ∷ s.text, [], refl, s.spelled, refl) }
+branches_behind c s =
+    record { text = s.text ++ symbol mark.RightParen ∷ []; value = branch s.value no_branch; spelled = (c ∷ s.text, [], refl, s.spelled, refl) }
 
 pub branches_begun : Begun begins_branch Branches
 branches_begun = record {
@@ -152,9 +154,11 @@ branches_begun = record {
 
 -- ---- parts with the bracket that closes
 
-parts_value : (t u : List Lexeme) (ps : Parts) → t ≡ u ++ symbol mark.RightBracket ∷ [] → SpellsParts u ps → (n : ℕ) × (rest : List Lexeme) × (t ≡ number n ∷ rest)
+parts_value : (t u : List Lexeme) (ps : Parts) → t ≡ u ++ symbol mark.RightBracket ∷ [] → SpellsParts u ps → (n : ℕ) × (rest : List Lexeme)
+    × (t ≡ number n ∷ rest)
 parts_value t u no_part is l = absurd l
-parts_value t u (part v c ps) is l = (v, symbol mark.Arrow ∷ ((l.0 ++ l.1) ++ symbol mark.RightBracket ∷ []), is ∙ ap (λ (z : List Lexeme). z ++ symbol mark.RightBracket ∷ []) l.2)
+parts_value t u (part v c ps) is l =
+    (v, symbol mark.Arrow ∷ ((l.0 ++ l.1) ++ symbol mark.RightBracket ∷ []), is ∙ ap (λ (z : List Lexeme). z ++ symbol mark.RightBracket ∷ []) l.2)
 
 small_right : (n : ℕ) (b : Bool) → small_number n b ≡ wrong → ⊥
 small_right n true h = absurd cc

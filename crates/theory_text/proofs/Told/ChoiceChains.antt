@@ -29,24 +29,31 @@ BranchesSeq b = Seq (BranchText (b - 1)) (λ g. Seq (As plus_token) (BranchesRes
 
 more_of : (u : List Lexeme) (c : Contract) → Branches u c → (tm : List Lexeme) × (symbol mark.Plus ∷ u ≡ tm ++ symbol mark.RightParen ∷ []) × SpellsMore tm c
 more_of u no_branch l = absurd l
-more_of u (branch g bs) l = (symbol mark.Plus ∷ (l.0 ++ l.1), ap (λ (z : List Lexeme). symbol mark.Plus ∷ z) (l.2 ∙ sym (append_assoc l.0 l.1 (symbol mark.RightParen ∷ []))), (l.0, l.1, refl, l.3, l.4))
+more_of u (branch g bs) l = (
+  symbol mark.Plus
+      ∷ (l.0 ++ l.1),
+  ap (λ (z : List Lexeme). symbol mark.Plus ∷ z) (l.2 ∙ sym (append_assoc l.0 l.1 (symbol mark.RightParen ∷ []))),
+  (l.0, l.1, refl, l.3, l.4),
+)
 
-branches_at_end : (b : ℕ) (t tb ts : List Lexeme) (g : Guarded × ℕ) (o : Bool) (v : Contract × ℕ) → t ≡ tb ++ plus_token o ∷ ts → BranchText (b - 1) tb g → BranchesRest g o ts v → BranchesText b t v
+branches_at_end : (b : ℕ) (t tb ts : List Lexeme) (g : Guarded × ℕ) (o : Bool) (v : Contract × ℕ) → t ≡ tb ++ plus_token o ∷ ts
+    → BranchText (b - 1) tb g → BranchesRest g o ts v → BranchesText b t v
 branches_at_end b t tb ts g false v is l k =
     let whole : t ≡ tb ++ symbol mark.RightParen ∷ [] = is ∙ ap (λ (z : List Lexeme). tb ++ symbol mark.RightParen ∷ z) k.empty in
     subst (BranchesText b t) k.same ((tb, [], whole, l.0, refl), omega (arith, l.1))
 branches_at_end b t tb ts g true v is l k =
-    let m = more_of k.first k.value.0 k.front.0 in
+    let m = more_of k.first k.value.0 k.prefix.0 in
     let text : ts ≡ k.first = k.parts ∙ rw (k.back.empty, append-nil k.first) refl in
     let whole : t ≡ tb ++ (m.0 ++ symbol mark.RightParen ∷ []) = is ∙ ap (λ (z : List Lexeme). tb ++ symbol mark.Plus ∷ z) text ∙ ap (λ (z : List Lexeme). tb ++ z) m.1 in
-    subst (BranchesText b t) k.back.same ((tb, m.0, whole, l.0, m.2), omega (arith, l.1, k.front.1))
+    subst (BranchesText b t) k.back.same ((tb, m.0, whole, l.0, m.2), omega (arith, l.1, k.prefix.1))
 
 pub branches_to : (b : ℕ) (t : List Lexeme) (v : Contract × ℕ) → BranchesSeq b t v → BranchesText b t v
 branches_to b t v s =
-    let is : t ≡ s.first ++ plus_token s.back.value ∷ s.back.second = s.parts ∙ rw (s.back.parts, s.back.front.single) refl in
-    branches_at_end b t s.first s.back.second s.value s.back.value v is s.front s.back.back
+    let is : t ≡ s.first ++ plus_token s.back.value ∷ s.back.second = s.parts ∙ rw (s.back.parts, s.back.prefix.single) refl in
+    branches_at_end b t s.first s.back.second s.value s.back.value v is s.prefix s.back.back
 
-branches_of : (b : ℕ) (t tb tm : List Lexeme) (g : Guarded) (bs : Contract) (n : ℕ) → t ≡ tb ++ (tm ++ symbol mark.RightParen ∷ []) → SpellsBranch tb g → SpellsMore tm bs → n ≡ b - (count_under g + 1 + count_of bs) → BranchesSeq b t (branch g bs, n)
+branches_of : (b : ℕ) (t tb tm : List Lexeme) (g : Guarded) (bs : Contract) (n : ℕ) → t ≡ tb ++ (tm ++ symbol mark.RightParen ∷ [])
+    → SpellsBranch tb g → SpellsMore tm bs → n ≡ b - (count_under g + 1 + count_of bs) → BranchesSeq b t (branch g bs, n)
 branches_of b t tb tm g no_branch n is l m e =
     let same : (b - 1) - count_under g ≡ n = omega (arith, e) in
     record {
@@ -54,8 +61,20 @@ branches_of b t tb tm g no_branch n is l m e =
       second = symbol mark.RightParen ∷ [];
       value = (g, (b - 1) - count_under g);
       parts = is ∙ ap (λ (z : List Lexeme). tb ++ (z ++ symbol mark.RightParen ∷ [])) m;
-      front = (l, refl);
-      back = record { first = symbol mark.RightParen ∷ []; second = []; value = false; parts = refl; front = record { single = refl }; back = record { empty = refl; same = ap (λ (z : ℕ). (branch g no_branch, z)) same } };
+      prefix = (l, refl);
+      back = record {
+        first = symbol mark.RightParen
+            ∷ [];
+        second = [];
+        value = false;
+        parts = refl;
+        prefix = record { single = refl };
+        back = record {
+          empty = refl;
+          same = ap
+              (λ (z : ℕ). (branch g no_branch, z)) same;
+        };
+      };
     }
 branches_of b t tb tm g (branch h bs) n is l m e =
     let same : ((b - 1) - count_under g) - (count_under h + 1 + count_of bs) ≡ n = omega (arith, e) in
@@ -65,19 +84,19 @@ branches_of b t tb tm g (branch h bs) n is l m e =
       second = symbol mark.Plus ∷ (m.0 ++ (m.1 ++ symbol mark.RightParen ∷ []));
       value = (g, (b - 1) - count_under g);
       parts = is ∙ ap (λ (z : List Lexeme). tb ++ z) text;
-      front = (l, refl);
+      prefix = (l, refl);
       back = record {
         first = symbol mark.Plus ∷ [];
         second = m.0 ++ (m.1 ++ symbol mark.RightParen ∷ []);
         value = true;
         parts = refl;
-        front = record { single = refl };
+        prefix = record { single = refl };
         back = record {
           first = m.0 ++ (m.1 ++ symbol mark.RightParen ∷ []);
           second = [];
           value = (branch h bs, ((b - 1) - count_under g) - (count_under h + 1 + count_of bs));
           parts = sym (append-nil (m.0 ++ (m.1 ++ symbol mark.RightParen ∷ [])));
-          front = ((m.0, m.1, refl, m.3, m.4), refl);
+          prefix = ((m.0, m.1, refl, m.3, m.4), refl);
           back = record { empty = refl; same = ap (λ (z : ℕ). (branch g (branch h bs), z)) same };
         };
       };
@@ -98,7 +117,7 @@ OneSeq b = Seq (BranchText (b - 1)) (λ g. Nothing (branch (g.0) no_branch, g.1)
 pub one_to : (b : ℕ) (t : List Lexeme) (v : Contract × ℕ) → OneSeq b t v → ChoiceText b t v
 one_to b t v s =
     let is : t ≡ s.first = s.parts ∙ rw (s.back.empty, append-nil s.first) refl in
-    subst (ChoiceText b t) s.back.same (inl (subst (λ (z : List Lexeme). SpellsBranch z (s.value.0)) (sym is) s.front.0, refl), omega (arith, s.front.1))
+    subst (ChoiceText b t) s.back.same (inl (subst (λ (z : List Lexeme). SpellsBranch z (s.value.0)) (sym is) s.prefix.0, refl), omega (arith, s.prefix.1))
 
 -- a bracket opens
 abbrev pub opens : Lexeme → Bool
@@ -115,7 +134,7 @@ one_of b c t (branch g bs) n h (inl w) e =
       second = [];
       value = (g, (b - 1) - count_under g);
       parts = sym (append-nil (c ∷ t));
-      front = (w.0, refl);
+      prefix = (w.0, refl);
       back = record { empty = refl; same = λ i. (branch g (sym w.1 i), same i) };
     }
 one_of b c t (branch g bs) n h (inr w) e = let k : opens (symbol mark.LeftParen) ≡ false = subst (λ (z : Lexeme). opens z ≡ false) (head_is c (symbol mark.LeftParen) t _ w.2) h in absurd cc
@@ -158,23 +177,33 @@ further : (t : List Lexeme) (ps : Parts) → SpellsParts t ps → SpellsMorePart
 further t no_part l = absurd l
 further t (part n c ps) l = (l.0, l.1, ap (λ (z : List Lexeme). symbol mark.Comma ∷ z) l.2, l.3, l.4)
 
-parts_at_end : (b : ℕ) (t tn ts : List Lexeme) (n : ℕ) (c : Contract × ℕ) (o : Bool) (v : Parts × ℕ) → t ≡ number n ∷ symbol mark.Arrow ∷ (tn ++ comma_token o ∷ ts) → ChoiceText b tn c → PartsRest n c o ts v → PartsText b t v
+parts_at_end : (b : ℕ) (t tn ts : List Lexeme) (n : ℕ) (c : Contract × ℕ) (o : Bool) (v : Parts × ℕ) → t ≡ number n ∷ symbol mark.Arrow
+    ∷ (tn ++ comma_token o ∷ ts) → ChoiceText b tn c → PartsRest n c o ts v → PartsText b t v
 parts_at_end b t tn ts n c false v is l k =
     let whole : t ≡ (number n ∷ symbol mark.Arrow ∷ (tn ++ [])) ++ symbol mark.RightBracket ∷ [] = is ∙ ap (λ (z : List Lexeme). number n ∷ symbol mark.Arrow ∷ (tn ++ symbol mark.RightBracket ∷ z)) k.empty ∙ ap (λ (z : List Lexeme). number n ∷ symbol mark.Arrow ∷ (z ++ symbol mark.RightBracket ∷ [])) (sym (append-nil tn)) in
     subst (PartsText b t) k.same ((number n ∷ symbol mark.Arrow ∷ (tn ++ []), whole, (tn, [], refl, l.0, refl)), omega (arith, l.1))
 parts_at_end b t tn ts n c true v is l k =
-    let p = k.front.0 in
+    let p = k.prefix.0 in
     let text : ts ≡ p.0 ++ symbol mark.RightBracket ∷ [] = k.parts ∙ rw (k.back.empty, append-nil k.first) p.1 in
     let whole : t ≡ (number n ∷ symbol mark.Arrow ∷ (tn ++ symbol mark.Comma ∷ p.0)) ++ symbol mark.RightBracket ∷ [] = is ∙ ap (λ (z : List Lexeme). number n ∷ symbol mark.Arrow ∷ (tn ++ symbol mark.Comma ∷ z)) text ∙ ap (λ (z : List Lexeme). number n ∷ symbol mark.Arrow ∷ z) (sym (append_assoc tn (symbol mark.Comma ∷ p.0) (symbol mark.RightBracket ∷ []))) in
-    subst (PartsText b t) k.back.same ((number n ∷ symbol mark.Arrow ∷ (tn ++ symbol mark.Comma ∷ p.0), whole, (tn, symbol mark.Comma ∷ p.0, refl, l.0, further p.0 (k.value.0) p.2)), omega (arith, l.1, k.front.1))
+    subst (PartsText b t) k.back.same (
+      (
+        number n ∷ symbol mark.Arrow
+            ∷ (tn ++ symbol mark.Comma ∷ p.0),
+        whole,
+        (tn, symbol mark.Comma ∷ p.0, refl, l.0, further p.0 (k.value.0) p.2),
+      ),
+      omega (arith, l.1, k.prefix.1),
+    )
 
 pub parts_to : (b : ℕ) (t : List Lexeme) (v : Parts × ℕ) → PartsSeq b t v → PartsText b t v
 parts_to b t v s =
     let r = s.back.back in
-    let is : t ≡ number s.value ∷ symbol mark.Arrow ∷ (r.first ++ comma_token r.back.value ∷ r.back.second) = s.parts ∙ rw (s.front.single, s.back.parts, s.back.front.single, r.parts, r.back.parts, r.back.front.single) refl in
-    parts_at_end b t r.first r.back.second s.value r.value r.back.value v is r.front r.back.back
+    let is : t ≡ number s.value ∷ symbol mark.Arrow ∷ (r.first ++ comma_token r.back.value ∷ r.back.second) = s.parts ∙ rw (s.prefix.single, s.back.parts, s.back.prefix.single, r.parts, r.back.parts, r.back.prefix.single) refl in
+    parts_at_end b t r.first r.back.second s.value r.value r.back.value v is r.prefix r.back.back
 
-parts_tail : (b : ℕ) (tm : List Lexeme) (v : ℕ) (c : Contract) (ps : Parts) (n : ℕ) → SpellsMoreParts tm ps → n ≡ b - (count_of c + count_of_parts ps) → Seq (As comma_token) (PartsRest v (c, b - count_of c)) (tm ++ symbol mark.RightBracket ∷ []) (part v c ps, n)
+parts_tail : (b : ℕ) (tm : List Lexeme) (v : ℕ) (c : Contract) (ps : Parts) (n : ℕ) → SpellsMoreParts tm ps → n
+    ≡ b - (count_of c + count_of_parts ps) → Seq (As comma_token) (PartsRest v (c, b - count_of c)) (tm ++ symbol mark.RightBracket ∷ []) (part v c ps, n)
 parts_tail b tm v c no_part n m e =
     let same : b - count_of c ≡ n = omega (arith, e) in
     record {
@@ -182,7 +211,7 @@ parts_tail b tm v c no_part n m e =
       second = [];
       value = false;
       parts = ap (λ (z : List Lexeme). z ++ symbol mark.RightBracket ∷ []) m;
-      front = record { single = refl };
+      prefix = record { single = refl };
       back = record { empty = refl; same = ap (λ (z : ℕ). (part v c no_part, z)) same };
     }
 parts_tail b tm v c (part w d ps) n m e =
@@ -192,37 +221,39 @@ parts_tail b tm v c (part w d ps) n m e =
       second = (number w ∷ symbol mark.Arrow ∷ (m.0 ++ m.1)) ++ symbol mark.RightBracket ∷ [];
       value = true;
       parts = ap (λ (z : List Lexeme). z ++ symbol mark.RightBracket ∷ []) m.2;
-      front = record { single = refl };
+      prefix = record { single = refl };
       back = record {
         first = (number w ∷ symbol mark.Arrow ∷ (m.0 ++ m.1)) ++ symbol mark.RightBracket ∷ [];
         second = [];
         value = (part w d ps, (b - count_of c) - (count_of d + count_of_parts ps));
         parts = sym (append-nil ((number w ∷ symbol mark.Arrow ∷ (m.0 ++ m.1)) ++ symbol mark.RightBracket ∷ []));
-        front = ((number w ∷ symbol mark.Arrow ∷ (m.0 ++ m.1), refl, (m.0, m.1, refl, m.3, m.4)), refl);
+        prefix = ((number w ∷ symbol mark.Arrow ∷ (m.0 ++ m.1), refl, (m.0, m.1, refl, m.3, m.4)), refl);
         back = record { empty = refl; same = ap (λ (z : ℕ). (part v c (part w d ps), z)) same };
       };
     }
 
-parts_of : (b : ℕ) (t tp : List Lexeme) (ps : Parts) (n : ℕ) → t ≡ tp ++ symbol mark.RightBracket ∷ [] → SpellsParts tp ps → n ≡ b - count_of_parts ps → PartsSeq b t (ps, n)
+parts_of : (b : ℕ) (t tp : List Lexeme) (ps : Parts) (n : ℕ) → t ≡ tp ++ symbol mark.RightBracket ∷ [] → SpellsParts tp ps → n
+    ≡ b - count_of_parts ps → PartsSeq b t (ps, n)
 parts_of b t tp no_part n is l e = absurd l
 parts_of b t tp (part v c ps) n is l e = record {
   first = number v ∷ [];
   second = symbol mark.Arrow ∷ (l.0 ++ (l.1 ++ symbol mark.RightBracket ∷ []));
   value = v;
-  parts = is ∙ ap (λ (z : List Lexeme). z ++ symbol mark.RightBracket ∷ []) l.2 ∙ ap (λ (z : List Lexeme). number v ∷ symbol mark.Arrow ∷ z) (append_assoc l.0 l.1 (symbol mark.RightBracket ∷ []));
-  front = record { single = refl };
+  parts = is ∙ ap (λ (z : List Lexeme). z ++ symbol mark.RightBracket ∷ []) l.2
+      ∙ ap (λ (z : List Lexeme). number v ∷ symbol mark.Arrow ∷ z) (append_assoc l.0 l.1 (symbol mark.RightBracket ∷ []));
+  prefix = record { single = refl };
   back = record {
     first = symbol mark.Arrow ∷ [];
     second = l.0 ++ (l.1 ++ symbol mark.RightBracket ∷ []);
     value = tt;
     parts = refl;
-    front = record { single = refl };
+    prefix = record { single = refl };
     back = record {
       first = l.0;
       second = l.1 ++ symbol mark.RightBracket ∷ [];
       value = (c, b - count_of c);
       parts = refl;
-      front = (l.3, refl);
+      prefix = (l.3, refl);
       back = parts_tail b l.1 v c ps n l.4 e;
     };
   };

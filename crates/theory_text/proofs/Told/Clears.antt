@@ -26,18 +26,21 @@ clear_pure a = record {
       (sym l.same ∙ m.same, ap (λ (z : List Lexeme). z ++ x) (sym l0) ∙ e ∙ ap (λ (z : List Lexeme). z ++ y) m0);
 }
 
-clear_seq_at : {A Y : Type 0} (n : ℕ) (F : List Lexeme → A → Type 0) (K : A → List Lexeme → Y → Type 0) → Clear_to n F → ((a : A) → Clear_to n (K a)) → (t x u y : List Lexeme) (v w : Y) → length t ≤ n → Seq F K t v → Seq F K u w → t ++ x ≡ u ++ y → (v ≡ w) × (x ≡ y)
+clear_seq_at : {A Y : Type 0} (n : ℕ) (F : List Lexeme → A → Type 0) (K : A → List Lexeme → Y → Type 0) → Clear_to n F
+    → ((a : A) → Clear_to n (K a)) → (t x u y : List Lexeme) (v w : Y) → length t ≤ n → Seq F K t v → Seq F K u w → t ++ x ≡ u ++ y → (v ≡ w) × (x ≡ y)
 clear_seq_at n F K cf ck t x u y v w le p q e =
     let is : p.first ++ (p.second ++ x) ≡ q.first ++ (q.second ++ y) = sym (append_assoc p.first p.second x) ∙ ap (λ (z : List Lexeme). z ++ x) (sym p.parts) ∙ e ∙ ap (λ (z : List Lexeme). z ++ y) q.parts ∙ append_assoc q.first q.second y in
     let len : length t ≡ length p.first + length p.second = ap length p.parts ∙ length-append p.first p.second in
-    let one = cf.apart p.first (p.second ++ x) q.first (q.second ++ y) p.value q.value (omega arith) p.front q.front is in
+    let one = cf.apart p.first (p.second ++ x) q.first (q.second ++ y) p.value q.value (omega arith) p.prefix q.prefix is in
     (ck q.value).apart p.second x q.second y v w (omega arith) (subst (λ (z : _). K z p.second v) one.0 p.back) q.back one.1
 
-pub clear_seq : {A Y : Type 0} {n : ℕ} {F : List Lexeme → A → Type 0} {K : A → List Lexeme → Y → Type 0} → Clear_to n F → ((a : A) → Clear_to n (K a)) → Clear_to n (Seq F K)
+pub clear_seq : {A Y : Type 0} {n : ℕ} {F : List Lexeme → A → Type 0} {K : A → List Lexeme → Y → Type 0} → Clear_to n F
+    → ((a : A) → Clear_to n (K a)) → Clear_to n (Seq F K)
 clear_seq {n = n} {F = F} {K = K} cf ck = record { apart = clear_seq_at n F K cf ck }
 
 -- fewer texts
-pub clear_from : {A : Type 0} {n : ℕ} {L : List Lexeme → A → Type 0} (M : List Lexeme → A → Type 0) → ((t : List Lexeme) (a : A) → M t a → L t a) → Clear_to n L → Clear_to n M
+pub clear_from : {A : Type 0} {n : ℕ} {L : List Lexeme → A → Type 0} (M : List Lexeme → A → Type 0)
+    → ((t : List Lexeme) (a : A) → M t a → L t a) → Clear_to n L → Clear_to n M
 clear_from M from c = record { apart = λ t x u y a b le l m e. c.apart t x u y a b le (from t a l) (from u b m) e }
 
 -- no texts
@@ -50,7 +53,8 @@ clear_behind c k = record {
   apart = λ t x u y a b le l m e. k.apart (c ∷ t) x (c ∷ u) y a b (omega arith) l m (ap (λ (z : List Lexeme). c ∷ z) e);
 }
 
-clear_first_at : {A : Type 0} (n : ℕ) (L : List Lexeme → A → Type 0) → ((a : A) → L [] a → ⊥) → ((c : Lexeme) → Clear_to n (Behind c L)) → (t x u y : List Lexeme) (a b : A) → length t ≤ suc n → L t a → L u b → t ++ x ≡ u ++ y → (a ≡ b) × (x ≡ y)
+clear_first_at : {A : Type 0} (n : ℕ) (L : List Lexeme → A → Type 0) → ((a : A) → L [] a → ⊥) → ((c : Lexeme) → Clear_to n (Behind c L))
+    → (t x u y : List Lexeme) (a b : A) → length t ≤ suc n → L t a → L u b → t ++ x ≡ u ++ y → (a ≡ b) × (x ≡ y)
 clear_first_at n L nothing each [] x u y a b le l m e = absurd (nothing a l)
 clear_first_at n L nothing each (c ∷ t) x [] y a b le l m e = absurd (nothing b m)
 clear_first_at n L nothing each (c ∷ t) x (d ∷ u) y a b le l m e =
@@ -62,7 +66,8 @@ clear_first_at n L nothing each (c ∷ t) x (d ∷ u) y a b le l m e =
 pub clear_first : {A : Type 0} {n : ℕ} (L : List Lexeme → A → Type 0) → ((a : A) → L [] a → ⊥) → ((c : Lexeme) → Clear_to n (Behind c L)) → Clear_to (suc n) L
 clear_first {n = n} L nothing each = record { apart = clear_first_at n L nothing each }
 
-clear_zero_at : {A : Type 0} (L : List Lexeme → A → Type 0) → ((a : A) → L [] a → ⊥) → (t x u y : List Lexeme) (a b : A) → length t ≤ 0 → L t a → L u b → t ++ x ≡ u ++ y → (a ≡ b) × (x ≡ y)
+clear_zero_at : {A : Type 0} (L : List Lexeme → A → Type 0) → ((a : A) → L [] a → ⊥) → (t x u y : List Lexeme) (a b : A) → length t ≤ 0
+    → L t a → L u b → t ++ x ≡ u ++ y → (a ≡ b) × (x ≡ y)
 clear_zero_at L nothing [] x u y a b le l m e = absurd (nothing a l)
 clear_zero_at L nothing (c ∷ t) x u y a b le l m e = absurd (omega arith)
 

@@ -65,12 +65,13 @@ a_head =
     pure (a, k))))
 
 head_clear_to : (n : ℕ) → Clear_to n Head
-head_clear_to n = clear_seq (clear_to (clear_as the_name)) (λ a. clear_seq (clear_to (clear_as (the_symbol mark.Colon refl))) (λ c. clear_seq (clear_to (clear_as the_kind)) (λ k. clear_pure (a, k))))
+head_clear_to n = clear_seq (clear_to (clear_as the_name))
+    (λ a. clear_seq (clear_to (clear_as (the_symbol mark.Colon refl))) (λ c. clear_seq (clear_to (clear_as the_kind)) (λ k. clear_pure (a, k))))
 
 head_text : (t : List Lexeme) (h : List ℕ × EntryKind) → Head t h → t ≡ name (h.0) ∷ symbol mark.Colon ∷ kind_token (h.1) ∷ []
 head_text t h s =
     let r = s.back.back in
-    let is : t ≡ name s.value ∷ symbol mark.Colon ∷ kind_token r.value ∷ [] = s.parts ∙ rw (s.front.single, s.back.parts, s.back.front.single, r.parts, r.front.single, r.back.empty) refl in
+    let is : t ≡ name s.value ∷ symbol mark.Colon ∷ kind_token r.value ∷ [] = s.parts ∙ rw (s.prefix.single, s.back.parts, s.back.prefix.single, r.parts, r.prefix.single, r.back.empty) refl in
     is ∙ ap (λ (z : List ℕ × EntryKind). name (z.0) ∷ symbol mark.Colon ∷ kind_token (z.1) ∷ []) r.back.same
 
 -- ---- the rest of an entry
@@ -101,7 +102,10 @@ an_entry_rest volatile party = a_deposit false party
 an_entry_rest secret party = a_secret party
 
 deposit_clear : (n : ℕ) (persists : Bool) (party : List ℕ) → Clear_to n (Deposit persists party)
-deposit_clear n persists party = clear_seq (clear_to (clear_as (the_number max_money))) (λ v. clear_seq (clear_to (clear_as (the_symbol mark.At refl))) (λ o. clear_seq (clear_to (clear_as the_name)) (λ x. clear_pure (deposit_of persists party v x))))
+deposit_clear n persists party =
+    clear_seq (clear_to (clear_as (the_number max_money)))
+    (λ v. clear_seq (clear_to (clear_as (the_symbol mark.At refl)))
+    (λ o. clear_seq (clear_to (clear_as the_name)) (λ x. clear_pure (deposit_of persists party v x))))
 
 entry_rest_clear : (n : ℕ) (k : EntryKind) (party : List ℕ) → Clear_to n (EntryRest k party)
 entry_rest_clear n persistent party = deposit_clear n true party
@@ -125,28 +129,33 @@ EntryLast room h = Seq (EntryRest (h.1) (h.0)) (λ p. Nothing (p, room_after (h.
 abbrev EntrySeq : Room → List Lexeme → Pre × Room → Type 0
 EntrySeq room = Seq Head (EntryLast room)
 
-deposit_text : (persists : Bool) (party : List ℕ) (t : List Lexeme) (p : Pre) → Deposit persists party t p → (v : ℕ) × (x : List ℕ) × (t ≡ number v ∷ symbol mark.At ∷ name x ∷ []) × (deposit_of persists party v x ≡ p)
+deposit_text : (persists : Bool) (party : List ℕ) (t : List Lexeme) (p : Pre) → Deposit persists party t p → (v : ℕ) × (x : List ℕ)
+    × (t ≡ number v ∷ symbol mark.At ∷ name x ∷ []) × (deposit_of persists party v x ≡ p)
 deposit_text persists party t p s =
     let r = s.back.back in
-    let is : t ≡ number s.value ∷ symbol mark.At ∷ name r.value ∷ [] = s.parts ∙ rw (s.front.single, s.back.parts, s.back.front.single, r.parts, r.front.single, r.back.empty) refl in
+    let is : t ≡ number s.value ∷ symbol mark.At ∷ name r.value ∷ [] = s.parts ∙ rw (s.prefix.single, s.back.parts, s.back.prefix.single, r.parts, r.prefix.single, r.back.empty) refl in
     (s.value, r.value, is, r.back.same)
 
-entry_rest_to : (k : EntryKind) (party : List ℕ) (t u : List Lexeme) (room : Room) (p : Pre) → t ≡ name party ∷ symbol mark.Colon ∷ kind_token k ∷ u → EntryRest k party u p → EntryText room t (p, room_after k room)
+entry_rest_to : (k : EntryKind) (party : List ℕ) (t u : List Lexeme) (room : Room) (p : Pre) → t ≡ name party ∷ symbol mark.Colon
+    ∷ kind_token k ∷ u → EntryRest k party u p → EntryText room t (p, room_after k room)
 entry_rest_to persistent party t u room p is s =
     let d = deposit_text true party u p s in
-    subst (λ (z : Pre). EntryText room t (z, room_after persistent room)) d.3 (is ∙ ap (λ (z : List Lexeme). name party ∷ symbol mark.Colon ∷ symbol mark.Bang ∷ z) d.2, refl)
+    subst (λ (z : Pre). EntryText room t (z, room_after persistent room)) d.3
+    (is ∙ ap (λ (z : List Lexeme). name party ∷ symbol mark.Colon ∷ symbol mark.Bang ∷ z) d.2, refl)
 entry_rest_to volatile party t u room p is s =
     let d = deposit_text false party u p s in
-    subst (λ (z : Pre). EntryText room t (z, room_after volatile room)) d.3 (is ∙ ap (λ (z : List Lexeme). name party ∷ symbol mark.Colon ∷ symbol mark.Question ∷ z) d.2, refl)
+    subst (λ (z : Pre). EntryText room t (z, room_after volatile room)) d.3
+    (is ∙ ap (λ (z : List Lexeme). name party ∷ symbol mark.Colon ∷ symbol mark.Question ∷ z) d.2, refl)
 entry_rest_to secret party t u room p is s =
-    let text : u ≡ name s.value ∷ [] = s.parts ∙ rw (s.front.single, s.back.empty) refl in
-    subst (λ (z : Pre). EntryText room t (z, room_after secret room)) s.back.same (is ∙ ap (λ (z : List Lexeme). name party ∷ symbol mark.Colon ∷ keyword word.Secret ∷ z) text, refl)
+    let text : u ≡ name s.value ∷ [] = s.parts ∙ rw (s.prefix.single, s.back.empty) refl in
+    subst (λ (z : Pre). EntryText room t (z, room_after secret room)) s.back.same
+    (is ∙ ap (λ (z : List Lexeme). name party ∷ symbol mark.Colon ∷ keyword word.Secret ∷ z) text, refl)
 
 entry_to : (room : Room) (t : List Lexeme) (v : Pre × Room) → EntrySeq room t v → EntryText room t v
 entry_to room t v s =
     let h = s.value in
-    let is : t ≡ name h.0 ∷ symbol mark.Colon ∷ kind_token h.1 ∷ s.back.first = s.parts ∙ rw (head_text s.first s.value s.front, s.back.parts, s.back.back.empty, append-nil s.back.first) refl in
-    subst (EntryText room t) s.back.back.same (entry_rest_to h.1 h.0 t s.back.first room s.back.value is s.back.front)
+    let is : t ≡ name h.0 ∷ symbol mark.Colon ∷ kind_token h.1 ∷ s.back.first = s.parts ∙ rw (head_text s.first s.value s.prefix, s.back.parts, s.back.back.empty, append-nil s.back.first) refl in
+    subst (EntryText room t) s.back.back.same (entry_rest_to h.1 h.0 t s.back.first room s.back.value is s.back.prefix)
 
 head_of : (party : List ℕ) (k : EntryKind) → Head (name party ∷ symbol mark.Colon ∷ kind_token k ∷ []) (party, k)
 head_of party k = record {
@@ -154,68 +163,95 @@ head_of party k = record {
   second = symbol mark.Colon ∷ kind_token k ∷ [];
   value = party;
   parts = refl;
-  front = record { single = refl };
+  prefix = record { single = refl };
   back = record {
     first = symbol mark.Colon ∷ [];
     second = kind_token k ∷ [];
     value = tt;
     parts = refl;
-    front = record { single = refl };
-    back = record { first = kind_token k ∷ []; second = []; value = k; parts = refl; front = record { single = refl }; back = record { empty = refl; same = refl } };
+    prefix = record { single = refl };
+    back = record {
+      first = kind_token k ∷ [];
+      second = [];
+      value = k;
+      parts = refl;
+      prefix = record { single = refl };
+      back = record {
+        empty = refl;
+        same = refl;
+      };
+    };
   };
 }
 
-deposit_is : (persists : Bool) (party : List ℕ) (v : ℕ) (x : List ℕ) → Deposit persists party (number v ∷ symbol mark.At ∷ name x ∷ []) (deposit_of persists party v x)
+deposit_is : (persists : Bool) (party : List ℕ) (v : ℕ) (x : List ℕ)
+    → Deposit persists party (number v ∷ symbol mark.At ∷ name x ∷ []) (deposit_of persists party v x)
 deposit_is persists party v x = record {
   first = number v ∷ [];
   second = symbol mark.At ∷ name x ∷ [];
   value = v;
   parts = refl;
-  front = record { single = refl };
+  prefix = record { single = refl };
   back = record {
     first = symbol mark.At ∷ [];
     second = name x ∷ [];
     value = tt;
     parts = refl;
-    front = record { single = refl };
-    back = record { first = name x ∷ []; second = []; value = x; parts = refl; front = record { single = refl }; back = record { empty = refl; same = refl } };
+    prefix = record { single = refl };
+    back = record { first = name x ∷ []; second = []; value = x; parts = refl; prefix = record { single = refl }; back = record { empty = refl; same = refl } };
   };
 }
 
-entry_seq : (room : Room) (t : List Lexeme) (party : List ℕ) (k : EntryKind) (u : List Lexeme) (p : Pre) (r : Room) → t ≡ name party ∷ symbol mark.Colon ∷ kind_token k ∷ u → EntryRest k party u p → r ≡ room_after k room → EntrySeq room t (p, r)
+entry_seq : (room : Room) (t : List Lexeme) (party : List ℕ) (k : EntryKind) (u : List Lexeme) (p : Pre) (r : Room) → t ≡ name party
+    ∷ symbol mark.Colon ∷ kind_token k ∷ u → EntryRest k party u p → r ≡ room_after k room → EntrySeq room t (p, r)
 entry_seq room t party k u p r is l e = record {
   first = name party ∷ symbol mark.Colon ∷ kind_token k ∷ [];
   second = u;
   value = (party, k);
   parts = is;
-  front = head_of party k;
-  back = record { first = u; second = []; value = p; parts = sym (append-nil u); front = l; back = record { empty = refl; same = ap (λ (z : Room). (p, z)) (sym e) } };
+  prefix = head_of party k;
+  back = record {
+    first = u;
+    second = [];
+    value = p;
+    parts = sym
+        (append-nil u);
+    prefix = l;
+    back = record { empty = refl; same = ap (λ (z : Room). (p, z)) (sym e) };
+  };
 }
 
 entry_of : (room : Room) (t : List Lexeme) (p : Pre) (r : Room) → t ≡ entry p → r ≡ room_after (kind_of p) room → EntrySeq room t (p, r)
-entry_of room t (Persistent party v x) r is e = entry_seq room t party persistent (number v ∷ symbol mark.At ∷ name x ∷ []) (Persistent party v x) r is (deposit_is true party v x) e
-entry_of room t (Volatile party v x) r is e = entry_seq room t party volatile (number v ∷ symbol mark.At ∷ name x ∷ []) (Volatile party v x) r is (deposit_is false party v x) e
-entry_of room t (Secret party x) r is e = entry_seq room t party secret (name x ∷ []) (Secret party x) r is (record { first = name x ∷ []; second = []; value = x; parts = refl; front = record { single = refl }; back = record { empty = refl; same = refl } }) e
+entry_of room t (Persistent party v x) r is e =
+    entry_seq room t party persistent (number v ∷ symbol mark.At ∷ name x ∷ []) (Persistent party v x) r is (deposit_is true party v x) e
+entry_of room t (Volatile party v x) r is e =
+    entry_seq room t party volatile (number v ∷ symbol mark.At ∷ name x ∷ []) (Volatile party v x) r is (deposit_is false party v x) e
+entry_of room t (Secret party x) r is e =
+    entry_seq room t party secret (name x ∷ []) (Secret party x) r is
+    (record { first = name x ∷ []; second = []; value = x; parts = refl; prefix = record { single = refl }; back = record { empty = refl; same = refl } }) e
 
 entry_from : (room : Room) (t : List Lexeme) (v : Pre × Room) → EntryText room t v → EntrySeq room t v
 entry_from room t v l = entry_of room t (v.0) (v.1) (l.0) (l.1)
 
 entry_clear_to : (n : ℕ) (room : Room) → Clear_to n (EntryText room)
-entry_clear_to n room = clear_from (EntryText room) (entry_from room) (clear_seq (head_clear_to n) (λ h. clear_seq (entry_rest_clear n (h.1) (h.0)) (λ p. clear_pure (p, room_after (h.1) room))))
+entry_clear_to n room = clear_from (EntryText room) (entry_from room)
+    (clear_seq (head_clear_to n) (λ h. clear_seq (entry_rest_clear n (h.1) (h.0)) (λ p. clear_pure (p, room_after (h.1) room))))
 
 -- ---- the reader of an entry
 
-an_entry_last : (room : Room) (h : List ℕ × EntryKind) → Exact (EntryLast room h) (λ ts. entry_rest_at (h.1) (h.0) ts >>= λ p. Ok ((p.0, room_after (h.1) room), p.1))
+an_entry_last : (room : Room) (h : List ℕ × EntryKind)
+    → Exact (EntryLast room h) (λ ts. entry_rest_at (h.1) (h.0) ts >>= λ p. Ok ((p.0, room_after (h.1) room), p.1))
 an_entry_last room h = seq (clear_of (λ n. entry_rest_clear n (h.1) (h.0))) (an_entry_rest (h.1) (h.0)) (λ p t l. pure (p, room_after (h.1) room))
 
 head_clear : Clear Head
 head_clear = clear_of head_clear_to
 
-no_room_told : (room : Room) (ts : List Lexeme) (h : List ℕ × EntryKind) (rest : List Lexeme) (w : Limit) → Taken Head ts h rest → Told (EntryText room) ts (Err (stops.Limit w (length ts)))
+no_room_told : (room : Room) (ts : List Lexeme) (h : List ℕ × EntryKind) (rest : List Lexeme) (w : Limit) → Taken Head ts h rest
+    → Told (EntryText room) ts (Err (stops.Limit w (length ts)))
 no_room_told room ts h rest w t =
     let is : ts ≡ name h.0 ∷ symbol mark.Colon ∷ kind_token h.1 ∷ rest = t.parts ∙ ap (λ (z : List Lexeme). z ++ rest) (head_text t.text h t.spelled) in
     record {
-      front = [];
+      prefix = [];
       next = name h.0;
       after = symbol mark.Colon ∷ kind_token h.1 ∷ rest;
       parts = is;
@@ -232,17 +268,26 @@ room_told : (room : Room) (ts : List Lexeme) (h : List ℕ × EntryKind) (rest :
 room_told room ts h rest true t = no_room_told room ts h rest (entry_limit (h.1)) t
 room_told room ts h rest false t =
     let r = entry_rest_at (h.1) (h.0) rest >>= λ p. Ok ((p.0, room_after (h.1) room), p.1) in
-    moved (EntrySeq room) (EntryText room) ts (entry_to room) (entry_from room) r (before Head (EntryLast room) head_clear ts h rest t r ((an_entry_last room h).tells rest).told)
+    moved (EntrySeq room) (EntryText room) ts (entry_to room) (entry_from room) r
+    (before Head (EntryLast room) head_clear ts h rest t r ((an_entry_last room h).tells rest).told)
 
 entry_by : (room : Room) (ts : List Lexeme) (r : Result ((List ℕ × EntryKind) × List Lexeme) Stop) → Told Head ts r
-    → Told (EntryText room) ts (r >>= λ h. room_for (h.0.1) (is_full (h.0.1) room) (length ts) >>= λ q. entry_rest_at (h.0.1) (h.0.0) (h.1) >>= λ p. Ok ((p.0, room_after (h.0.1) room), p.1))
+    → Told (EntryText room) ts (r >>= λ h. room_for (h.0.1) (is_full (h.0.1) room) (length ts) >>= λ q. entry_rest_at (h.0.1) (h.0.0) (h.1)
+    >>= λ p. Ok ((p.0, room_after (h.0.1) room), p.1))
 entry_by room ts (Ok x) t = room_told room ts (x.0) (x.1) (is_full (x.0.1) room) t
-entry_by room ts (Err e) s = moved (EntrySeq room) (EntryText room) ts (entry_to room) (entry_from room) (Err e) (stopped_in Head (EntryLast room) head_clear (λ h t l. (an_entry_last room h).some) ts e s)
+entry_by room ts (Err e) s =
+    moved (EntrySeq room) (EntryText room) ts (entry_to room) (entry_from room) (Err e)
+    (stopped_in Head (EntryLast room) head_clear (λ h t l. (an_entry_last room h).some) ts e s)
 
 an_entry : (room : Room) → Exact (EntryText room) (entry_at room)
 unfolding entry_at
 an_entry room = record {
-  some = record { text = name [] ∷ symbol mark.Colon ∷ keyword word.Secret ∷ name [] ∷ []; value = (Secret [] [], room_after secret room); spelled = (refl, refl) };
+  some = record {
+    text = name [] ∷ symbol mark.Colon ∷ keyword word.Secret ∷ name []
+        ∷ [];
+    value = (Secret [] [], room_after secret room);
+    spelled = (refl, refl);
+  };
   tells = λ ts. record { told = entry_by room ts (head_at ts) (a_head.tells ts).told };
 }
 
@@ -293,11 +338,12 @@ entries_end : (t ts : List Lexeme) (p : Pre × Room) (o : Bool) (v : List Pre) �
 entries_end t ts p false v is k = subst (Entries t) k.same (is ∙ ap (λ (z : List Lexeme). entry (p.0) ++ symbol mark.RightBrace ∷ z) k.empty)
 entries_end t ts p true v is k =
     let text : ts ≡ k.first = k.parts ∙ rw (k.back.empty, append-nil k.first) refl in
-    subst (Entries t) k.back.same (is ∙ ap (λ (z : List Lexeme). entry (p.0) ++ symbol mark.Bar ∷ z) text ∙ ap (λ (z : List Lexeme). entry (p.0) ++ z) (more_entries_of k.first k.value k.front))
+    subst (Entries t) k.back.same (is ∙ ap (λ (z : List Lexeme). entry (p.0) ++ symbol mark.Bar ∷ z) text
+    ∙ ap (λ (z : List Lexeme). entry (p.0) ++ z) (more_entries_of k.first k.value k.prefix))
 
 entries_to : (room : Room) (t : List Lexeme) (v : List Pre) → EntriesSeq room t v → Entries t v
 entries_to room t v s =
-    let is : t ≡ entry s.value.0 ++ bar_token s.back.value ∷ s.back.second = s.parts ∙ rw (s.front.0, s.back.parts, s.back.front.single) refl in
+    let is : t ≡ entry s.value.0 ++ bar_token s.back.value ∷ s.back.second = s.parts ∙ rw (s.prefix.0, s.back.parts, s.back.prefix.single) refl in
     entries_end t s.back.second s.value s.back.value v is s.back.back
 
 entries_from : (room : Room) (t : List Lexeme) (v : List Pre) → Entries t v → EntriesSeq room t v
@@ -307,8 +353,16 @@ entries_from room t (p ∷ []) l = record {
   second = symbol mark.RightBrace ∷ [];
   value = (p, room_after (kind_of p) room);
   parts = l;
-  front = (refl, refl);
-  back = record { first = symbol mark.RightBrace ∷ []; second = []; value = false; parts = refl; front = record { single = refl }; back = record { empty = refl; same = refl } };
+  prefix = (refl, refl);
+  back = record {
+    first = symbol mark.RightBrace
+        ∷ [];
+    second = [];
+    value = false;
+    parts = refl;
+    prefix = record { single = refl };
+    back = record { empty = refl; same = refl };
+  };
 }
 entries_from room t (p ∷ q ∷ ps) l =
     let rest : List Lexeme = entry q ++ (more_entries ps ++ symbol mark.RightBrace ∷ []) in
@@ -318,14 +372,14 @@ entries_from room t (p ∷ q ∷ ps) l =
       second = symbol mark.Bar ∷ rest;
       value = (p, room_after (kind_of p) room);
       parts = is;
-      front = (refl, refl);
+      prefix = (refl, refl);
       back = record {
         first = symbol mark.Bar ∷ [];
         second = rest;
         value = true;
         parts = refl;
-        front = record { single = refl };
-        back = record { first = rest; second = []; value = q ∷ ps; parts = sym (append-nil rest); front = refl; back = record { empty = refl; same = refl } };
+        prefix = record { single = refl };
+        back = record { first = rest; second = []; value = q ∷ ps; parts = sym (append-nil rest); prefix = refl; back = record { empty = refl; same = refl } };
       };
     }
 
@@ -362,13 +416,22 @@ entry_clear room = clear_of (λ n. entry_clear_to n room)
 -- ---- the reader of all entries
 
 some_entries : Some_text Entries
-some_entries = record { text = name [] ∷ symbol mark.Colon ∷ keyword word.Secret ∷ name [] ∷ symbol mark.RightBrace ∷ []; value = Secret [] [] ∷ []; spelled = refl }
+some_entries =
+    record { text = name [] ∷ symbol mark.Colon ∷ keyword word.Secret ∷ name [] ∷ symbol mark.RightBrace ∷ []; value = Secret [] [] ∷ []; spelled = refl }
 
 some_rest : (p : Pre × Room) → Some_text (Seq (As bar_token) (EntriesRest p))
 some_rest p = record {
   text = symbol mark.RightBrace ∷ [];
   value = p.0 ∷ [];
-  spelled = record { first = symbol mark.RightBrace ∷ []; second = []; value = false; parts = refl; front = record { single = refl }; back = record { empty = refl; same = refl } };
+  spelled = record {
+    first = symbol mark.RightBrace
+        ∷ [];
+    second = [];
+    value = false;
+    parts = refl;
+    prefix = record { single = refl };
+    back = record { empty = refl; same = refl };
+  };
 }
 
 abbrev read_as : {A : Type 0} → A → Result A Stop
@@ -379,12 +442,14 @@ stays_full persistent = refl
 stays_full volatile = refl
 stays_full secret = refl
 
-room_closed : (k : EntryKind) (full : Bool) (n : ℕ) (r : Result (Pre × List Lexeme) Stop) (x : (Pre × Room) × List Lexeme) → full ≡ true → (room_for k full n >>= λ q. r >>= λ p. Ok ((p.0, room_after k (0, 0)), p.1)) ≡ read_as x → ⊥
+room_closed : (k : EntryKind) (full : Bool) (n : ℕ) (r : Result (Pre × List Lexeme) Stop) (x : (Pre × Room) × List Lexeme) → full ≡ true
+    → (room_for k full n >>= λ q. r >>= λ p. Ok ((p.0, room_after k (0, 0)), p.1)) ≡ read_as x → ⊥
 room_closed k true n r x h e = absurd cc
 room_closed k false n r x h e = absurd cc
 
 never_read : (n : ℕ) (r : Result ((List ℕ × EntryKind) × List Lexeme) Stop) (x : (Pre × Room) × List Lexeme)
-    → (r >>= λ h. room_for (h.0.1) (is_full (h.0.1) (0, 0)) n >>= λ q. entry_rest_at (h.0.1) (h.0.0) (h.1) >>= λ p. Ok ((p.0, room_after (h.0.1) (0, 0)), p.1)) ≡ read_as x → ⊥
+    → (r >>= λ h. room_for (h.0.1) (is_full (h.0.1) (0, 0)) n >>= λ q. entry_rest_at (h.0.1) (h.0.0) (h.1) >>= λ p. Ok
+    ((p.0, room_after (h.0.1) (0, 0)), p.1)) ≡ read_as x → ⊥
 never_read n (Ok y) x e = room_closed (y.0.1) (is_full (y.0.1) (0, 0)) n (entry_rest_at (y.0.1) (y.0.0) (y.1)) x (stays_full (y.0.1)) e
 never_read n (Err d) x e = absurd cc
 
@@ -392,9 +457,11 @@ none_read : (ts : List Lexeme) (x : (Pre × Room) × List Lexeme) → entry_at (
 unfolding entry_at
 none_read ts x e = never_read (length ts) (head_at ts) x e
 
-last_told : (ts : List Lexeme) (r : Result ((Pre × Room) × List Lexeme) Stop) → entry_at (0, 0) ts ≡ r → Told (EntryText (0, 0)) ts r → Told Entries ts (r >>= λ p. Ok (p.0.0 ∷ [], p.1))
+last_told : (ts : List Lexeme) (r : Result ((Pre × Room) × List Lexeme) Stop) → entry_at (0, 0) ts ≡ r → Told (EntryText (0, 0)) ts r
+    → Told Entries ts (r >>= λ p. Ok (p.0.0 ∷ [], p.1))
 last_told ts (Ok x) is t = absurd (none_read ts x is)
-last_told ts (Err e) is s = moved (EntriesSeq (0, 0)) Entries ts (entries_to (0, 0)) (entries_from (0, 0)) (Err e) (stopped_in (EntryText (0, 0)) (λ p. Seq (As bar_token) (EntriesRest p)) (entry_clear (0, 0)) (λ p t l. some_rest p) ts e s)
+last_told ts (Err e) is s = moved (EntriesSeq (0, 0)) Entries ts (entries_to (0, 0)) (entries_from (0, 0)) (Err e)
+    (stopped_in (EntryText (0, 0)) (λ p. Seq (As bar_token) (EntriesRest p)) (entry_clear (0, 0)) (λ p t l. some_rest p) ts e s)
 
 abbrev entries_rest_at : ℕ → Pre × Room → Bool → List Lexeme → Reads (List Pre)
 entries_rest_at n p o ts = elim o [
@@ -409,7 +476,8 @@ an_entries_rest n p h false = pure (p.0 ∷ [])
 -- entries are read exactly
 pub entries_exact : (n : ℕ) (room : Room) → Exact Entries (entries_at n room)
 unfolding entries_at
-entries_exact zero room = record { some = some_entries; tells = λ ts. record { told = last_told ts (entry_at (0, 0) ts) refl ((an_entry (0, 0)).tells ts).told } }
+entries_exact zero room =
+    record { some = some_entries; tells = λ ts. record { told = last_told ts (entry_at (0, 0) ts) refl ((an_entry (0, 0)).tells ts).told } }
 entries_exact (suc n) room = transfer Entries (entries_to room) (entries_from room)
     (seq (entry_clear room) (an_entry room) (λ p t l.
     seq (clear_as the_bar) (token the_bar) (λ o u m.

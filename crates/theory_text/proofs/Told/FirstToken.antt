@@ -42,7 +42,7 @@ pub record Begun {A V : Type 0} (see : Lexeme → Seen V) (L : List Lexeme → A
 ended_by : {A : Type 0} (L : List Lexeme → A → Type 0) → ((a : A) → L [] a → ⊥) → (t : List Lexeme) (a : A) → L t a → Stopped L [] 0
 ended_by L nothing [] a l = absurd (nothing a l)
 ended_by L nothing (c ∷ t) a l = record {
-  front = [];
+  prefix = [];
   rest = [];
   parts = refl;
   left_is = refl;
@@ -59,16 +59,18 @@ ended_told L nothing some = ended_by L nothing some.text some.value some.spelled
 pub ended : {A V : Type 0} (see : Lexeme → Seen V) (L : List Lexeme → A → Type 0) → Begun see L → Tells L [] (Err (stops.Syntax 0))
 ended see L b = record { told = ended_told L b.nothing b.some }
 
-other_first : {A V : Type 0} (see : Lexeme → Seen V) (L : List Lexeme → A → Type 0) → Begun see L → (c : Lexeme) (ts : List Lexeme) → see c ≡ wrong → (d e : Lexeme) (after further : List Lexeme) (a : A) → c ∷ ts ≡ d ∷ after → StandsFor d e → L (e ∷ further) a → ⊥
+other_first : {A V : Type 0} (see : Lexeme → Seen V) (L : List Lexeme → A → Type 0) → Begun see L → (c : Lexeme) (ts : List Lexeme) → see c
+    ≡ wrong → (d e : Lexeme) (after further : List Lexeme) (a : A) → c ∷ ts ≡ d ∷ after → StandsFor d e → L (e ∷ further) a → ⊥
 other_first see L b c ts h d e after further a at stands m =
     let same : c ≡ d = cc in
     let h' : see d ≡ wrong = subst (λ (z : Lexeme). see z ≡ wrong) same h in
     b.first e further a m (stands_wrong see b.fair d e stands h')
 
-wrong_by : {A V : Type 0} (see : Lexeme → Seen V) (L : List Lexeme → A → Type 0) → Begun see L → (c : Lexeme) (ts : List Lexeme) → see c ≡ wrong → (t : List Lexeme) (a : A) → L t a → Stopped L (c ∷ ts) (suc (length ts))
+wrong_by : {A V : Type 0} (see : Lexeme → Seen V) (L : List Lexeme → A → Type 0) → Begun see L → (c : Lexeme) (ts : List Lexeme) → see c
+    ≡ wrong → (t : List Lexeme) (a : A) → L t a → Stopped L (c ∷ ts) (suc (length ts))
 wrong_by see L b c ts h [] a l = absurd (b.nothing a l)
 wrong_by see L b c ts h (x ∷ t) a l = record {
-  front = [];
+  prefix = [];
   rest = c ∷ ts;
   parts = refl;
   left_is = refl;
@@ -80,14 +82,16 @@ wrong_by see L b c ts h (x ∷ t) a l = record {
 }
 
 -- no text begins with this token
-pub wrong_first : {A V : Type 0} (see : Lexeme → Seen V) (L : List Lexeme → A → Type 0) → Begun see L → (c : Lexeme) (ts : List Lexeme) → see c ≡ wrong → Tells L (c ∷ ts) (Err (stops.Syntax (suc (length ts))))
+pub wrong_first : {A V : Type 0} (see : Lexeme → Seen V) (L : List Lexeme → A → Type 0) → Begun see L → (c : Lexeme) (ts : List Lexeme)
+    → see c ≡ wrong → Tells L (c ∷ ts) (Err (stops.Syntax (suc (length ts))))
 wrong_first see L b c ts h = record { told = wrong_by see L b c ts h b.some.text b.some.value b.some.spelled }
 
 -- a text begins with what this token stands for
-pub exceeded_first : {A : Type 0} (L : List Lexeme → A → Type 0) (c d : Lexeme) (ts : List Lexeme) (w : Limit) → StandsFor c d → Some_text (Behind d L) → Tells L (c ∷ ts) (Err (stops.Limit w (suc (length ts))))
+pub exceeded_first : {A : Type 0} (L : List Lexeme → A → Type 0) (c d : Lexeme) (ts : List Lexeme) (w : Limit) → StandsFor c d
+    → Some_text (Behind d L) → Tells L (c ∷ ts) (Err (stops.Limit w (suc (length ts))))
 exceeded_first L c d ts w stands s = record {
   told = record {
-    front = [];
+    prefix = [];
     next = c;
     after = ts;
     parts = refl;
@@ -100,13 +104,15 @@ exceeded_first L c d ts w stands s = record {
   };
 }
 
-stop_at : {A V : Type 0} (see : Lexeme → Seen V) (L : List Lexeme → A → Type 0) → Begun see L → (w : Limit) (c : Lexeme) (ts : List Lexeme) (s : Seen V) → see c ≡ s → Tells L (c ∷ ts) (Err (stop_seen w s (suc (length ts))))
+stop_at : {A V : Type 0} (see : Lexeme → Seen V) (L : List Lexeme → A → Type 0) → Begun see L
+    → (w : Limit) (c : Lexeme) (ts : List Lexeme) (s : Seen V) → see c ≡ s → Tells L (c ∷ ts) (Err (stop_seen w s (suc (length ts))))
 stop_at see L b w c ts (taken v) h = exceeded_first L c c ts w (stands_itself c) (b.begins c v h)
 stop_at see L b w c ts wrong h = wrong_first see L b c ts h
 stop_at see L b w c ts (above u) h = let x = b.exceeds c u h in exceeded_first L c x.0 ts u x.1 x.2
 
 -- one too many
-pub stops_first : {A V : Type 0} (see : Lexeme → Seen V) (L : List Lexeme → A → Type 0) → Begun see L → (w : Limit) (ts : List Lexeme) → Tells L ts (Err (too_many w see ts))
+pub stops_first : {A V : Type 0} (see : Lexeme → Seen V) (L : List Lexeme → A → Type 0) → Begun see L → (w : Limit) (ts : List Lexeme)
+    → Tells L ts (Err (too_many w see ts))
 stops_first see L b w [] = ended see L b
 stops_first see L b w (c ∷ ts) = stop_at see L b w c ts (see c) refl
 
@@ -114,15 +120,15 @@ stops_first see L b w (c ∷ ts) = stop_at see L b w c ts (see c) refl
 
 narrow_from : {A : Type 0} (M L : List Lexeme → A → Type 0) (test : Lexeme → Bool) → (c : Lexeme) (ts : List Lexeme)
     → ((d : Lexeme) → StandsFor c d → test d ≡ false) → ((d : Lexeme) (t : List Lexeme) (a : A) → test d ≡ false → L (d ∷ t) a → M (d ∷ t) a)
-    → (front rest : List Lexeme) → c ∷ ts ≡ front ++ rest → (e d : Lexeme) (after further : List Lexeme) (a : A) → rest ≡ e ∷ after
-    → StandsFor e d → L (front ++ d ∷ further) a → M (front ++ d ∷ further) a
+    → (prefix rest : List Lexeme) → c ∷ ts ≡ prefix ++ rest → (e d : Lexeme) (after further : List Lexeme) (a : A) → rest ≡ e ∷ after
+    → StandsFor e d → L (prefix ++ d ∷ further) a → M (prefix ++ d ∷ further) a
 narrow_from M L test c ts fair from [] rest parts e d after further a at stands l =
     let same : c ≡ e = let p : c ∷ ts ≡ e ∷ after = parts ∙ at in cc in
     from d further a (fair d (subst (λ (z : Lexeme). StandsFor z d) (sym same) stands)) l
-narrow_from M L test c ts fair from (x ∷ front) rest parts e d after further a at stands l =
+narrow_from M L test c ts fair from (x ∷ prefix) rest parts e d after further a at stands l =
     let same : c ≡ x = cc in
     let plain : test x ≡ false = subst (λ (z : Lexeme). test z ≡ false) same (fair c (stands_itself c)) in
-    from x (front ++ d ∷ further) a plain l
+    from x (prefix ++ d ∷ further) a plain l
 
 narrow_at : {A : Type 0} (M L : List Lexeme → A → Type 0) (test : Lexeme → Bool) → (c : Lexeme) (ts : List Lexeme)
     → ((d : Lexeme) → StandsFor c d → test d ≡ false) → ((t : List Lexeme) (a : A) → M t a → L t a)
@@ -131,10 +137,12 @@ narrow_at : {A : Type 0} (M L : List Lexeme → A → Type 0) (test : Lexeme →
 narrow_at M L test c ts fair to from (Ok x) t = record { text = t.text; parts = t.parts; spelled = to t.text x.0 t.spelled }
 narrow_at M L test c ts fair to from (Err e) s =
     carried (λ a. a) M L (c ∷ ts) to
-    (λ front rest parts e d after further a at stands l. (a, narrow_from M L test c ts fair from front rest parts e d after further a at stands l))
+    (λ prefix rest parts e d after further a at stands l. (a, narrow_from M L test c ts fair from prefix rest parts e d after further a at stands l))
     (Err e) s
 
 -- Where the test fails at all for which the first token stands, the smaller language tells of the larger one.
-pub narrow : {A : Type 0} (M L : List Lexeme → A → Type 0) (test : Lexeme → Bool) → (c : Lexeme) (ts : List Lexeme) → ((d : Lexeme) → StandsFor c d → test d ≡ false) → ((t : List Lexeme) (a : A) → M t a → L t a) → ((d : Lexeme) (t : List Lexeme) (a : A) → test d ≡ false → L (d ∷ t) a → M (d ∷ t) a)
+pub narrow : {A : Type 0} (M L : List Lexeme → A → Type 0) (test : Lexeme → Bool) → (c : Lexeme) (ts : List Lexeme)
+    → ((d : Lexeme) → StandsFor c d → test d ≡ false) → ((t : List Lexeme) (a : A) → M t a → L t a)
+    → ((d : Lexeme) (t : List Lexeme) (a : A) → test d ≡ false → L (d ∷ t) a → M (d ∷ t) a)
     → (r : Result (A × List Lexeme) Stop) → Tells M (c ∷ ts) r → Tells L (c ∷ ts) r
 narrow M L test c ts fair to from r h = record { told = narrow_at M L test c ts fair to from r h.told }

@@ -51,7 +51,13 @@ some_formula = record { text = number 0 ∷ []; value = constant 0; spelled = re
 formula_begins : (c : Lexeme) (v : Unit {0}) → begins_formula c ≡ taken v → Some_text (Behind c SpellsFormula)
 formula_begins (number n) v h = record { text = []; value = constant n; spelled = refl }
 formula_begins (symbol mark.Bar) v h = record { text = name [] ∷ symbol mark.Bar ∷ []; value = length_of []; spelled = refl }
-formula_begins (symbol mark.LeftParen) v h = record { text = number 0 ∷ symbol mark.Plus ∷ number 0 ∷ symbol mark.RightParen ∷ []; value = plus (constant 0) (constant 0); spelled = (number 0 ∷ [], number 0 ∷ [], refl, refl, refl) }
+formula_begins (symbol mark.LeftParen) v h =
+    record {
+      text = number 0 ∷ symbol mark.Plus ∷ number 0 ∷ symbol mark.RightParen
+          ∷ [];
+      value = plus (constant 0) (constant 0);
+      spelled = (number 0 ∷ [], number 0 ∷ [], refl, refl, refl);
+    }
 formula_begins c v h = absurd cc
 
 formula_exceeds : (c : Lexeme) (w : Limit) → begins_formula c ≡ above w → (d : Lexeme) × StandsFor c d × Some_text (Behind d SpellsFormula)
@@ -78,7 +84,7 @@ Length = Seq (As named) (λ x. Seq (As (that (symbol mark.Bar))) (λ u. Nothing 
 
 length_to : (t : List Lexeme) (a : Expr) → Length t a → Behind (symbol mark.Bar) SpellsFormula t a
 length_to t a s =
-    let is : t ≡ name s.value ∷ symbol mark.Bar ∷ [] = s.parts ∙ rw (s.front.single, s.back.parts, s.back.front.single, s.back.back.empty) refl in
+    let is : t ≡ name s.value ∷ symbol mark.Bar ∷ [] = s.parts ∙ rw (s.prefix.single, s.back.parts, s.back.prefix.single, s.back.back.empty) refl in
     subst (Behind (symbol mark.Bar) SpellsFormula t) s.back.back.same (ap (λ (u : List Lexeme). symbol mark.Bar ∷ u) is)
 
 length_from : (t : List Lexeme) (a : Expr) → Behind (symbol mark.Bar) SpellsFormula t a → Length t a
@@ -88,8 +94,18 @@ length_from t (length_of x) l = record {
   second = symbol mark.Bar ∷ [];
   value = x;
   parts = cc;
-  front = record { single = refl };
-  back = record { first = symbol mark.Bar ∷ []; second = []; value = tt; parts = refl; front = record { single = refl }; back = record { empty = refl; same = refl } };
+  prefix = record { single = refl };
+  back = record {
+    first = symbol mark.Bar ∷ [];
+    second = [];
+    value = tt;
+    parts = refl;
+    prefix = record { single = refl };
+    back = record {
+      empty = refl;
+      same = refl;
+    };
+  };
 }
 length_from t (plus e f) l = let k = l.2 in absurd cc
 length_from t (minus e f) l = let k = l.2 in absurd cc
@@ -131,36 +147,46 @@ the_sign = marks true sign_takes sign_back sign_low sign_mark
 abbrev Pair : List Lexeme → Expr → Type 0
 Pair = Seq SpellsFormula (λ e. Seq (As sign_token) (λ o. Seq SpellsFormula (λ f. Seq (As (that (symbol mark.RightParen))) (λ u. Nothing (signed o e f)))))
 
-signed_to : (t : List Lexeme) (o : Bool) (e f : Expr) (te tf : List Lexeme) → t ≡ te ++ sign_token o ∷ (tf ++ symbol mark.RightParen ∷ []) → SpellsFormula te e → SpellsFormula tf f → Behind (symbol mark.LeftParen) SpellsFormula t (signed o e f)
+signed_to : (t : List Lexeme) (o : Bool) (e f : Expr) (te tf : List Lexeme) → t ≡ te ++ sign_token o ∷ (tf ++ symbol mark.RightParen ∷ [])
+    → SpellsFormula te e → SpellsFormula tf f → Behind (symbol mark.LeftParen) SpellsFormula t (signed o e f)
 signed_to t true e f te tf is l m = (te, tf, ap (λ (u : List Lexeme). symbol mark.LeftParen ∷ u) is, l, m)
 signed_to t false e f te tf is l m = (te, tf, ap (λ (u : List Lexeme). symbol mark.LeftParen ∷ u) is, l, m)
 
 pair_to : (t : List Lexeme) (v : Expr) → Pair t v → Behind (symbol mark.LeftParen) SpellsFormula t v
 pair_to t v s =
     let r = s.back.back in
-    let is : t ≡ s.first ++ sign_token s.back.value ∷ (r.first ++ symbol mark.RightParen ∷ []) = s.parts ∙ rw (s.back.parts, s.back.front.single, r.parts, r.back.parts, r.back.front.single, r.back.back.empty) refl in
-    subst (Behind (symbol mark.LeftParen) SpellsFormula t) r.back.back.same (signed_to t s.back.value s.value r.value s.first r.first is s.front r.front)
+    let is : t ≡ s.first ++ sign_token s.back.value ∷ (r.first ++ symbol mark.RightParen ∷ []) = s.parts ∙ rw (s.back.parts, s.back.prefix.single, r.parts, r.back.parts, r.back.prefix.single, r.back.back.empty) refl in
+    subst (Behind (symbol mark.LeftParen) SpellsFormula t) r.back.back.same (signed_to t s.back.value s.value r.value s.first r.first is s.prefix r.prefix)
 
-pair_of : (t : List Lexeme) (o : Bool) (e f : Expr) (te tf : List Lexeme) → symbol mark.LeftParen ∷ t ≡ symbol mark.LeftParen ∷ (te ++ sign_token o ∷ (tf ++ symbol mark.RightParen ∷ [])) → SpellsFormula te e → SpellsFormula tf f → Pair t (signed o e f)
+pair_of : (t : List Lexeme) (o : Bool) (e f : Expr) (te tf : List Lexeme) → symbol mark.LeftParen ∷ t ≡ symbol mark.LeftParen
+    ∷ (te ++ sign_token o ∷ (tf ++ symbol mark.RightParen ∷ [])) → SpellsFormula te e → SpellsFormula tf f → Pair t (signed o e f)
 pair_of t o e f te tf is l m = record {
   first = te;
   second = sign_token o ∷ (tf ++ symbol mark.RightParen ∷ []);
   value = e;
   parts = cc;
-  front = l;
+  prefix = l;
   back = record {
     first = sign_token o ∷ [];
     second = tf ++ symbol mark.RightParen ∷ [];
     value = o;
     parts = refl;
-    front = record { single = refl };
+    prefix = record { single = refl };
     back = record {
       first = tf;
       second = symbol mark.RightParen ∷ [];
       value = f;
       parts = refl;
-      front = m;
-      back = record { first = symbol mark.RightParen ∷ []; second = []; value = tt; parts = refl; front = record { single = refl }; back = record { empty = refl; same = refl } };
+      prefix = m;
+      back = record {
+        first = symbol mark.RightParen
+            ∷ [];
+        second = [];
+        value = tt;
+        parts = refl;
+        prefix = record { single = refl };
+        back = record { empty = refl; same = refl };
+      };
     };
   };
 }
@@ -197,7 +223,8 @@ formula_part n h huge_number = clear_none (Behind huge_number SpellsFormula) no_
 formula_part n h (symbol mark.Bar) = clear_from (Behind (symbol mark.Bar) SpellsFormula) length_from
     (clear_seq (clear_to (clear_as the_name)) (λ x. clear_seq (clear_to (clear_as (the_symbol mark.Bar refl))) (λ u. clear_pure (length_of x))))
 formula_part n h (symbol mark.LeftParen) = clear_from (Behind (symbol mark.LeftParen) SpellsFormula) pair_from
-    (clear_seq h (λ e. clear_seq (clear_to (clear_as the_sign)) (λ o. clear_seq h (λ f. clear_seq (clear_to (clear_as (the_symbol mark.RightParen refl))) (λ u. clear_pure (signed o e f))))))
+    (clear_seq h (λ e. clear_seq (clear_to (clear_as the_sign))
+    (λ o. clear_seq h (λ f. clear_seq (clear_to (clear_as (the_symbol mark.RightParen refl))) (λ u. clear_pure (signed o e f))))))
 formula_part n h c = no_formula c n refl
 
 formula_clear_to : (n : ℕ) → Clear_to n SpellsFormula
@@ -213,7 +240,8 @@ constant_tells : (n : ℕ) (ts : List Lexeme) (b : Bool) → Tells SpellsFormula
 constant_tells n ts true = record { told = record { text = number n ∷ []; parts = refl; spelled = refl } }
 constant_tells n ts false = exceeded_first SpellsFormula (number n) (number n) ts limits.Number refl (record { text = []; value = constant n; spelled = refl })
 
-a_pair : (d : ℕ) → Exact SpellsFormula (formula_at d) → Exact (Behind (symbol mark.LeftParen) SpellsFormula) (λ ts. formula_at (suc d) (symbol mark.LeftParen ∷ ts))
+a_pair : (d : ℕ) → Exact SpellsFormula (formula_at d)
+    → Exact (Behind (symbol mark.LeftParen) SpellsFormula) (λ ts. formula_at (suc d) (symbol mark.LeftParen ∷ ts))
 unfolding formula_at
 a_pair d h = transfer (Behind (symbol mark.LeftParen) SpellsFormula) pair_to pair_from
     (seq formula_clear h (λ e t l.
@@ -226,9 +254,11 @@ formula_step : (d : ℕ) → Exact SpellsFormula (formula_at d) → (ts : List L
 unfolding formula_at constant_at
 formula_step d h [] = ended begins_formula SpellsFormula formula_begun
 formula_step d h (number n ∷ ts) = constant_tells n ts (nat_le n greatest_constant)
-formula_step d h (huge_number ∷ ts) = exceeded_first SpellsFormula huge_number (number 0) ts limits.Number tt (record { text = []; value = constant 0; spelled = refl })
+formula_step d h (huge_number ∷ ts) =
+    exceeded_first SpellsFormula huge_number (number 0) ts limits.Number tt (record { text = []; value = constant 0; spelled = refl })
 formula_step d h (symbol mark.Bar ∷ ts) = behind (symbol mark.Bar) SpellsFormula ts (length_at ts) (a_length.tells ts)
-formula_step d h (symbol mark.LeftParen ∷ ts) = behind (symbol mark.LeftParen) SpellsFormula ts (formula_at (suc d) (symbol mark.LeftParen ∷ ts)) ((a_pair d h).tells ts)
+formula_step d h (symbol mark.LeftParen ∷ ts) =
+    behind (symbol mark.LeftParen) SpellsFormula ts (formula_at (suc d) (symbol mark.LeftParen ∷ ts)) ((a_pair d h).tells ts)
 formula_step d h (c ∷ ts) = wrong_first begins_formula SpellsFormula formula_begun c ts refl
 
 formula_zero : (ts : List Lexeme) → Tells SpellsFormula ts (formula_at 0 ts)

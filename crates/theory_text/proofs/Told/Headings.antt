@@ -48,7 +48,13 @@ put_apart true h = absurd cc
 put_apart false h = absurd cc
 
 end_of_put : Ends put_token ends_put
-end_of_put = record { sees = marks true put_takes put_back put_low put_mark; fair = record { names = λ b h. refl; numbers = λ n h. refl }; low = put_low; apart = put_apart }
+end_of_put = record {
+  sees = marks true put_takes put_back put_low
+      put_mark;
+  fair = record { names = λ b h. refl; numbers = λ n h. refl };
+  low = put_low;
+  apart = put_apart;
+}
 
 abbrev pub reveal_token : Bool → Lexeme
 reveal_token true = keyword word.If
@@ -77,7 +83,13 @@ reveal_apart true h = absurd cc
 reveal_apart false h = absurd cc
 
 end_of_reveal : Ends reveal_token ends_reveal
-end_of_reveal = record { sees = marks true reveal_takes reveal_back reveal_low reveal_mark; fair = record { names = λ b h. refl; numbers = λ n h. refl }; low = reveal_low; apart = reveal_apart }
+end_of_reveal = record {
+  sees = marks true reveal_takes reveal_back reveal_low
+      reveal_mark;
+  fair = record { names = λ b h. refl; numbers = λ n h. refl };
+  low = reveal_low;
+  apart = reveal_apart;
+}
 
 -- ---- the readers
 
@@ -101,7 +113,8 @@ Reveals puts = Seq (Names reveal_token) (λ v. Seq (Condition (v.1)) (λ p. Noth
 
 pub a_reveal : (puts : List (List ℕ)) → Exact (Reveals puts) (reveals_at puts)
 unfolding reveals_at
-a_reveal puts = seq (names_clear end_of_reveal) (names_exact end_of_reveal) (λ v t l. seq (clear_of (λ n. condition_clear n (v.1))) (a_condition (v.1)) (λ p u m. pure (puts, v.0, p)))
+a_reveal puts = seq (names_clear end_of_reveal) (names_exact end_of_reveal)
+    (λ v t l. seq (clear_of (λ n. condition_clear n (v.1))) (a_condition (v.1)) (λ p u m. pure (puts, v.0, p)))
 
 reveals_clear_to : (n : ℕ) (puts : List (List ℕ)) → Clear_to n (Reveals puts)
 reveals_clear_to n puts = clear_seq (clear_to (names_clear end_of_reveal)) (λ v. clear_seq (condition_clear n (v.1)) (λ p. clear_pure (puts, v.0, p)))
@@ -136,7 +149,8 @@ puts_clear = clear_of (λ n. clear_seq (clear_to (names_clear end_of_put)) (λ v
 
 -- ---- from the grammar
 
-condition_of : (tp : List Lexeme) (p : Pred) → SpellsCondition tp p → (b : Bool) × (t : List Lexeme) × (tp ++ symbol mark.Dot ∷ [] ≡ reveal_token b ∷ t) × Condition b t p
+condition_of : (tp : List Lexeme) (p : Pred) → SpellsCondition tp p → (b : Bool) × (t : List Lexeme)
+    × (tp ++ symbol mark.Dot ∷ [] ≡ reveal_token b ∷ t) × Condition b t p
 condition_of tp p (inl w) = (false, [], ap (λ (u : List Lexeme). u ++ symbol mark.Dot ∷ []) w.0, record { empty = refl; same = sym w.1 })
 condition_of tp p (inr w) = (
   true,
@@ -147,24 +161,37 @@ condition_of tp p (inr w) = (
     second = symbol mark.Dot ∷ [];
     value = p;
     parts = refl;
-    front = w.2;
-    back = record { first = symbol mark.Dot ∷ []; second = []; value = tt; parts = refl; front = record { single = refl }; back = record { empty = refl; same = refl } };
+    prefix = w.2;
+    back = record {
+      first = symbol mark.Dot ∷ [];
+      second = [];
+      value = tt;
+      parts = refl;
+      prefix = record { single = refl };
+      back = record {
+        empty = refl;
+        same = refl;
+      };
+    };
   },
 )
 
-reveals_of : (puts : List (List ℕ)) (a : List ℕ) (as' : List (List ℕ)) (tp : List Lexeme) (p : Pred) → SpellsCondition tp p → Reveals puts ((names a as' ++ tp) ++ symbol mark.Dot ∷ []) (puts, a ∷ as', p)
+reveals_of : (puts : List (List ℕ)) (a : List ℕ) (as' : List (List ℕ)) (tp : List Lexeme) (p : Pred) → SpellsCondition tp p
+    → Reveals puts ((names a as' ++ tp) ++ symbol mark.Dot ∷ []) (puts, a ∷ as', p)
 reveals_of puts a as' tp p l =
     let c = condition_of tp p l in
     record {
       first = names a as' ++ reveal_token c.0 ∷ [];
       second = c.1;
       value = (a ∷ as', c.0);
-      parts = append_assoc (names a as') tp (symbol mark.Dot ∷ []) ∙ ap (λ (u : List Lexeme). names a as' ++ u) c.2 ∙ sym (append_assoc (names a as') (reveal_token c.0 ∷ []) c.1);
-      front = refl;
-      back = record { first = c.1; second = []; value = p; parts = sym (append-nil c.1); front = c.3; back = record { empty = refl; same = refl } };
+      parts = append_assoc (names a as') tp (symbol mark.Dot ∷ []) ∙ ap (λ (u : List Lexeme). names a as' ++ u) c.2
+          ∙ sym (append_assoc (names a as') (reveal_token c.0 ∷ []) c.1);
+      prefix = refl;
+      back = record { first = c.1; second = []; value = p; parts = sym (append-nil c.1); prefix = c.3; back = record { empty = refl; same = refl } };
     }
 
-pub reveal_from : (th : List Lexeme) (puts reveals : List (List ℕ)) (test : Pred) → SpellsHeading (keyword word.Reveal ∷ th) puts reveals test → Reveals [] (th ++ symbol mark.Dot ∷ []) (puts, reveals, test)
+pub reveal_from : (th : List Lexeme) (puts reveals : List (List ℕ)) (test : Pred)
+    → SpellsHeading (keyword word.Reveal ∷ th) puts reveals test → Reveals [] (th ++ symbol mark.Dot ∷ []) (puts, reveals, test)
 reveal_from th [] [] p l = absurd l
 reveal_from th (x ∷ xs) [] p l = let k = l.0 in absurd cc
 reveal_from th [] (a ∷ as') p l =
@@ -172,7 +199,8 @@ reveal_from th [] (a ∷ as') p l =
     subst (λ (u : List Lexeme). Reveals [] (u ++ symbol mark.Dot ∷ []) ([], a ∷ as', p)) (sym is) (reveals_of [] a as' l.0 p l.2)
 reveal_from th (x ∷ xs) (a ∷ as') p l = let k = l.1 in absurd cc
 
-pub put_from : (th : List Lexeme) (puts reveals : List (List ℕ)) (test : Pred) → SpellsHeading (keyword word.Put ∷ th) puts reveals test → Puts (th ++ symbol mark.Dot ∷ []) (puts, reveals, test)
+pub put_from : (th : List Lexeme) (puts reveals : List (List ℕ)) (test : Pred) → SpellsHeading (keyword word.Put ∷ th) puts reveals test
+    → Puts (th ++ symbol mark.Dot ∷ []) (puts, reveals, test)
 put_from th [] [] p l = absurd l
 put_from th (x ∷ xs) [] p l =
     let is : th ≡ names x xs = tail_is (keyword word.Put) (keyword word.Put) th _ l.0 in
@@ -181,7 +209,7 @@ put_from th (x ∷ xs) [] p l =
       second = [];
       value = (x ∷ xs, false);
       parts = ap (λ (u : List Lexeme). u ++ symbol mark.Dot ∷ []) is ∙ sym (append-nil (names x xs ++ symbol mark.Dot ∷ []));
-      front = refl;
+      prefix = refl;
       back = record { empty = refl; same = λ i. (x ∷ xs, [], sym l.1 i) };
     }
 put_from th [] (a ∷ as') p l = let k = l.1 in absurd cc
@@ -193,9 +221,19 @@ put_from th (x ∷ xs) (a ∷ as') p l =
       first = names x xs ++ symbol mark.Ampersand ∷ [];
       second = l.0 ++ symbol mark.Dot ∷ [];
       value = (x ∷ xs, true);
-      parts = ap (λ (u : List Lexeme). u ++ symbol mark.Dot ∷ []) is ∙ append_assoc (names x xs) (symbol mark.Ampersand ∷ l.0) (symbol mark.Dot ∷ []) ∙ sym (append_assoc (names x xs) (symbol mark.Ampersand ∷ []) (l.0 ++ symbol mark.Dot ∷ []));
-      front = refl;
-      back = record { first = keyword word.Reveal ∷ []; second = (names a as' ++ r.0) ++ symbol mark.Dot ∷ []; value = tt; parts = text; front = record { single = refl }; back = reveals_of (x ∷ xs) a as' r.0 p r.2 };
+      parts = ap (λ (u : List Lexeme). u ++ symbol mark.Dot ∷ []) is
+          ∙ append_assoc (names x xs) (symbol mark.Ampersand ∷ l.0) (symbol mark.Dot ∷ [])
+          ∙ sym (append_assoc (names x xs) (symbol mark.Ampersand ∷ []) (l.0 ++ symbol mark.Dot ∷ []));
+      prefix = refl;
+      back = record {
+        first = keyword word.Reveal ∷ [];
+        second = (names a as' ++ r.0) ++ symbol mark.Dot
+            ∷ [];
+        value = tt;
+        parts = text;
+        prefix = record { single = refl };
+        back = reveals_of (x ∷ xs) a as' r.0 p r.2;
+      };
     }
 
 -- ---- to the grammar
@@ -204,18 +242,24 @@ put_from th (x ∷ xs) (a ∷ as') p l =
 abbrev pub HeadedBy : Lexeme → List Lexeme → Heading → Type 0
 HeadedBy c t h = (th : List Lexeme) × (c ∷ t ≡ th ++ symbol mark.Dot ∷ []) × SpellsHeading th (h.0) (h.1) (h.2)
 
-condition_to : (b : Bool) (t : List Lexeme) (p : Pred) → Condition b t p → (tp : List Lexeme) × (reveal_token b ∷ t ≡ tp ++ symbol mark.Dot ∷ []) × SpellsCondition tp p
+condition_to : (b : Bool) (t : List Lexeme) (p : Pred) → Condition b t p → (tp : List Lexeme)
+    × (reveal_token b ∷ t ≡ tp ++ symbol mark.Dot ∷ []) × SpellsCondition tp p
 condition_to false t p s = ([], ap (λ (u : List Lexeme). symbol mark.Dot ∷ u) s.empty, inl (refl, sym s.same))
 condition_to true t p s =
-    let is : t ≡ s.first ++ symbol mark.Dot ∷ [] = s.parts ∙ rw (s.back.parts, s.back.front.single, s.back.back.empty) refl in
-    (keyword word.If ∷ s.first, ap (λ (u : List Lexeme). keyword word.If ∷ u) is, inr (s.first, refl, subst (λ (z : Pred). SpellsTest s.first z) s.back.back.same s.front))
+    let is : t ≡ s.first ++ symbol mark.Dot ∷ [] = s.parts ∙ rw (s.back.parts, s.back.prefix.single, s.back.back.empty) refl in (
+      keyword word.If ∷ s.first,
+      ap (λ (u : List Lexeme). keyword word.If ∷ u) is,
+      inr
+          (s.first, refl, subst (λ (z : Pred). SpellsTest s.first z) s.back.back.same s.prefix),
+    )
 
 -- names that are revealed, of which there is one, and the condition
 abbrev SomeReveals : List Lexeme → List (List ℕ) → Pred → Type 0
 SomeReveals t [] p = ⊥
 SomeReveals t (a ∷ as') p = SpellsReveals t a as' p
 
-revealed : (t first second : List Lexeme) (xs : List (List ℕ)) (e : Bool) (p : Pred) → t ≡ first ++ second → Listed reveal_token first xs e → Condition e second p → (th : List Lexeme) × (keyword word.Reveal ∷ t ≡ th ++ symbol mark.Dot ∷ []) × SomeReveals th xs p
+revealed : (t first second : List Lexeme) (xs : List (List ℕ)) (e : Bool) (p : Pred) → t ≡ first ++ second → Listed reveal_token first xs e
+    → Condition e second p → (th : List Lexeme) × (keyword word.Reveal ∷ t ≡ th ++ symbol mark.Dot ∷ []) × SomeReveals th xs p
 revealed t first second [] e p is l k = absurd l
 revealed t first second (a ∷ as') e p is l k =
     let c = condition_to e second p k in
@@ -223,10 +267,11 @@ revealed t first second (a ∷ as') e p is l k =
     let two : t ≡ (names a as' ++ c.0) ++ symbol mark.Dot ∷ [] = one ∙ append_assoc (names a as') (reveal_token e ∷ []) second ∙ ap (λ (u : List Lexeme). names a as' ++ u) c.1 ∙ sym (append_assoc (names a as') c.0 (symbol mark.Dot ∷ [])) in
     (keyword word.Reveal ∷ (names a as' ++ c.0), ap (λ (u : List Lexeme). keyword word.Reveal ∷ u) two, (c.0, refl, c.2))
 
-reveals_to : (puts : List (List ℕ)) (t : List Lexeme) (h : Heading) → Reveals puts t h → (puts ≡ h.0) × (th : List Lexeme) × (keyword word.Reveal ∷ t ≡ th ++ symbol mark.Dot ∷ []) × SomeReveals th (h.1) (h.2)
+reveals_to : (puts : List (List ℕ)) (t : List Lexeme) (h : Heading) → Reveals puts t h → (puts ≡ h.0) × (th : List Lexeme)
+    × (keyword word.Reveal ∷ t ≡ th ++ symbol mark.Dot ∷ []) × SomeReveals th (h.1) (h.2)
 reveals_to puts t h s =
     let is : t ≡ s.first ++ s.back.first = s.parts ∙ rw (s.back.parts, s.back.back.empty, append-nil s.back.first) refl in
-    let r = revealed t s.first s.back.first s.value.0 s.value.1 s.back.value is s.front s.back.front in
+    let r = revealed t s.first s.back.first s.value.0 s.value.1 s.back.value is s.prefix s.back.prefix in
     let same = s.back.back.same in
     (ap (λ (z : Heading). z.0) same, r.0, r.1, subst (λ (z : Heading). SomeReveals r.0 (z.1) (z.2)) same r.2)
 
@@ -239,14 +284,16 @@ reveal_to t h s =
     let r = reveals_to [] t h s in
     (r.1, r.2, subst (λ (z : List (List ℕ)). SpellsHeading r.1 z (h.1) (h.2)) r.0 (only_reveals r.1 (h.1) (h.2) r.3))
 
-put_and_reveals : (t first second th : List Lexeme) (x : List ℕ) (xs reveals : List (List ℕ)) (p : Pred) → t ≡ (names x xs ++ symbol mark.Ampersand ∷ []) ++ second → second ≡ th ++ symbol mark.Dot ∷ [] → SomeReveals th reveals p
+put_and_reveals : (t first second th : List Lexeme) (x : List ℕ) (xs reveals : List (List ℕ)) (p : Pred) → t
+    ≡ (names x xs ++ symbol mark.Ampersand ∷ []) ++ second → second ≡ th ++ symbol mark.Dot ∷ [] → SomeReveals th reveals p
     → HeadedBy (keyword word.Put) t (x ∷ xs, reveals, p)
 put_and_reveals t first second th x xs [] p is is2 l = absurd l
 put_and_reveals t first second th x xs (a ∷ as') p is is2 l =
     let one : t ≡ (names x xs ++ symbol mark.Ampersand ∷ th) ++ symbol mark.Dot ∷ [] = is ∙ append_assoc (names x xs) (symbol mark.Ampersand ∷ []) second ∙ ap (λ (u : List Lexeme). names x xs ++ symbol mark.Ampersand ∷ u) is2 ∙ sym (append_assoc (names x xs) (symbol mark.Ampersand ∷ th) (symbol mark.Dot ∷ [])) in
     (keyword word.Put ∷ (names x xs ++ symbol mark.Ampersand ∷ th), ap (λ (u : List Lexeme). keyword word.Put ∷ u) one, (th, refl, l))
 
-put_at_end : (t first second : List Lexeme) (xs : List (List ℕ)) (e : Bool) (h : Heading) → t ≡ first ++ second → Listed put_token first xs e → PutReveals e xs second h → HeadedBy (keyword word.Put) t h
+put_at_end : (t first second : List Lexeme) (xs : List (List ℕ)) (e : Bool) (h : Heading) → t ≡ first ++ second
+    → Listed put_token first xs e → PutReveals e xs second h → HeadedBy (keyword word.Put) t h
 put_at_end t first second [] e h is l k = absurd l
 put_at_end t first second (x ∷ xs) false h is l k =
     let one : t ≡ names x xs ++ symbol mark.Dot ∷ [] = is ∙ rw (l, k.empty, append-nil (names x xs ++ symbol mark.Dot ∷ [])) refl in
@@ -254,11 +301,11 @@ put_at_end t first second (x ∷ xs) false h is l k =
 put_at_end t first second (x ∷ xs) true h is l k =
     let r = reveals_to (x ∷ xs) k.second h k.back in
     let one : t ≡ (names x xs ++ symbol mark.Ampersand ∷ []) ++ second = is ∙ ap (λ (u : List Lexeme). u ++ second) l in
-    let two : second ≡ r.1 ++ symbol mark.Dot ∷ [] = k.parts ∙ ap (λ (u : List Lexeme). u ++ k.second) k.front.single ∙ r.2 in
+    let two : second ≡ r.1 ++ symbol mark.Dot ∷ [] = k.parts ∙ ap (λ (u : List Lexeme). u ++ k.second) k.prefix.single ∙ r.2 in
     subst (λ (z : List (List ℕ)). HeadedBy (keyword word.Put) t (z, h.1, h.2)) r.0 (put_and_reveals t first second r.1 x xs (h.1) (h.2) one two r.3)
 
 pub put_to : (t : List Lexeme) (h : Heading) → Puts t h → HeadedBy (keyword word.Put) t h
-put_to t h s = put_at_end t s.first s.second s.value.0 s.value.1 h s.parts s.front s.back
+put_to t h s = put_at_end t s.first s.second s.value.0 s.value.1 h s.parts s.prefix s.back
 
 -- ---- the first token
 
@@ -274,14 +321,17 @@ heading_nothing (x ∷ xs) [] p l = let k = l.0 in absurd cc
 heading_nothing [] (a ∷ as') p l = let k = l.1 in absurd cc
 heading_nothing (x ∷ xs) (a ∷ as') p l = let k = l.1 in absurd cc
 
-pub heading_first : (c : Lexeme) (t : List Lexeme) (puts reveals : List (List ℕ)) (test : Pred) → SpellsHeading (c ∷ t) puts reveals test → begins_heading c ≡ true
+pub heading_first : (c : Lexeme) (t : List Lexeme) (puts reveals : List (List ℕ)) (test : Pred) → SpellsHeading (c ∷ t) puts reveals test
+    → begins_heading c ≡ true
 heading_first c t [] [] p l = absurd l
 heading_first c t (x ∷ xs) [] p l = ap begins_heading (head_is c (keyword word.Put) t _ l.0)
 heading_first c t [] (a ∷ as') p l = ap begins_heading (head_is c (keyword word.Reveal) t _ l.1)
 heading_first c t (x ∷ xs) (a ∷ as') p l = ap begins_heading (head_is c (keyword word.Put) t _ l.1)
 
 -- a heading and what follows it: the heading begins with the first token
-pub headed : (c : Lexeme) (t th tn : List Lexeme) (puts reveals : List (List ℕ)) (test : Pred) → c ∷ t ≡ th ++ symbol mark.Dot ∷ tn → SpellsHeading th puts reveals test → (u : List Lexeme) × (t ≡ u ++ symbol mark.Dot ∷ tn) × SpellsHeading (c ∷ u) puts reveals test × (begins_heading c ≡ true)
+pub headed : (c : Lexeme) (t th tn : List Lexeme) (puts reveals : List (List ℕ)) (test : Pred) → c ∷ t ≡ th ++ symbol mark.Dot ∷ tn
+    → SpellsHeading th puts reveals test → (u : List Lexeme) × (t ≡ u ++ symbol mark.Dot ∷ tn) × SpellsHeading (c ∷ u) puts reveals test
+    × (begins_heading c ≡ true)
 headed c t [] tn puts reveals p is l = absurd (heading_nothing puts reveals p l)
 headed c t (x ∷ th) tn puts reveals p is l =
     let same : x ≡ c = sym (head_is c x t _ is) in

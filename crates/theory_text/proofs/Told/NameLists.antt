@@ -34,7 +34,9 @@ Names tok t v = Listed tok t (v.0) (v.1)
 
 -- ---- where names end
 
-later_apart : {E : Type 0} (tok : E → Lexeme) (ends : Lexeme → Seen E) → Ends tok ends → (xs ys : List (List ℕ)) (e f : E) (x y : List Lexeme) → (more_names xs ++ tok e ∷ []) ++ x ≡ (more_names ys ++ tok f ∷ []) ++ y → ((xs ≡ ys) × (e ≡ f)) × (x ≡ y)
+later_apart : {E : Type 0} (tok : E → Lexeme) (ends : Lexeme → Seen E) → Ends tok ends
+    → (xs ys : List (List ℕ)) (e f : E) (x y : List Lexeme) → (more_names xs ++ tok e ∷ []) ++ x ≡ (more_names ys ++ tok f ∷ []) ++ y
+    → ((xs ≡ ys) × (e ≡ f)) × (x ≡ y)
 later_apart tok ends en [] [] e f x y h = ((refl, en.sees.one e f (head_is (tok e) (tok f) x y h)), tail_is (tok e) (tok f) x y h)
 later_apart tok ends en [] (b ∷ ys) e f x y h = absurd (en.apart e (head_is (tok e) (symbol mark.Comma) _ _ h))
 later_apart tok ends en (a ∷ xs) [] e f x y h = absurd (en.apart f (sym (head_is (symbol mark.Comma) (tok f) _ _ h)))
@@ -45,7 +47,8 @@ later_apart tok ends en (a ∷ xs) (b ∷ ys) e f x y h =
     let same = r.0.0 in
     ((cc, r.0.1), r.1)
 
-names_apart : {E : Type 0} (tok : E → Lexeme) (ends : Lexeme → Seen E) → Ends tok ends → (t x u y : List Lexeme) (xs ys : List (List ℕ)) (e f : E) → Listed tok t xs e → Listed tok u ys f → t ++ x ≡ u ++ y → ((xs ≡ ys) × (e ≡ f)) × (x ≡ y)
+names_apart : {E : Type 0} (tok : E → Lexeme) (ends : Lexeme → Seen E) → Ends tok ends
+    → (t x u y : List Lexeme) (xs ys : List (List ℕ)) (e f : E) → Listed tok t xs e → Listed tok u ys f → t ++ x ≡ u ++ y → ((xs ≡ ys) × (e ≡ f)) × (x ≡ y)
 names_apart tok ends en t x u y [] ys e f l m h = absurd l
 names_apart tok ends en t x u y (a ∷ xs) [] e f l m h = absurd m
 names_apart tok ends en t x u y (a ∷ xs) (b ∷ ys) e f l m h =
@@ -117,13 +120,15 @@ later_nothing : {E : Type 0} (tok : E → Lexeme) (xs : List (List ℕ)) (e : E)
 later_nothing tok [] e h = absurd cc
 later_nothing tok (x ∷ xs) e h = absurd cc
 
-later_first : {E : Type 0} (tok : E → Lexeme) (ends : Lexeme → Seen E) → Ends tok ends → (d : Lexeme) (t : List Lexeme) (xs : List (List ℕ)) (e : E) → d ∷ t ≡ more_names xs ++ tok e ∷ [] → comma_or ends d ≡ wrong → ⊥
+later_first : {E : Type 0} (tok : E → Lexeme) (ends : Lexeme → Seen E) → Ends tok ends
+    → (d : Lexeme) (t : List Lexeme) (xs : List (List ℕ)) (e : E) → d ∷ t ≡ more_names xs ++ tok e ∷ [] → comma_or ends d ≡ wrong → ⊥
 later_first tok ends en d t [] e l h =
     let is : d ≡ tok e = head_is d (tok e) t [] l in
     en.sees.refuses d e (comma_wrong ends d h) (subst (λ (z : Lexeme). StandsFor d z) is (stands_itself d))
 later_first tok ends en d t (x ∷ xs) e l h = let k : comma_or ends (symbol mark.Comma) ≡ wrong = subst (λ (z : Lexeme). comma_or ends z ≡ wrong) (head_is d (symbol mark.Comma) t _ l) h in absurd cc
 
-later_begins : {E : Type 0} (tok : E → Lexeme) (ends : Lexeme → Seen E) → Ends tok ends → (c : Lexeme) (o : Option E) → comma_or ends c ≡ taken o → Some_text (Behind c (Later tok))
+later_begins : {E : Type 0} (tok : E → Lexeme) (ends : Lexeme → Seen E) → Ends tok ends → (c : Lexeme) (o : Option E) → comma_or ends c
+    ≡ taken o → Some_text (Behind c (Later tok))
 later_begins tok ends en c None h = record {
   text = name [] ∷ tok en.sees.some ∷ [];
   value = ([] ∷ [], en.sees.some);
@@ -167,7 +172,8 @@ names_begins : {E : Type 0} (tok : E → Lexeme) → E → (c : Lexeme) (x : Lis
 names_begins tok e (name bytes) x h = some_behind_name tok e bytes
 names_begins tok e c x h = absurd cc
 
-names_exceeds : {E : Type 0} (tok : E → Lexeme) → E → (c : Lexeme) (w : Limit) → a_name c ≡ above w → (d : Lexeme) × StandsFor c d × Some_text (Behind d (Names tok))
+names_exceeds : {E : Type 0} (tok : E → Lexeme) → E → (c : Lexeme) (w : Limit) → a_name c ≡ above w → (d : Lexeme) × StandsFor c d
+    × Some_text (Behind d (Names tok))
 names_exceeds tok e long_name w h = (name [], tt, some_behind_name tok e [])
 names_exceeds tok e c w h = absurd cc
 
@@ -183,40 +189,53 @@ names_begun tok e = record {
 
 -- ---- the reader
 
-name_from : {E : Type 0} (tok : E → Lexeme) (x : List ℕ) (t : List Lexeme) (xs : List (List ℕ)) (e : E) → Listed tok (name x ∷ t) xs e → (a : List (List ℕ) × E) × Later tok t a
+name_from : {E : Type 0} (tok : E → Lexeme) (x : List ℕ) (t : List Lexeme) (xs : List (List ℕ)) (e : E) → Listed tok (name x ∷ t) xs e
+    → (a : List (List ℕ) × E) × Later tok t a
 name_from tok x t [] e l = absurd l
 name_from tok x t (y ∷ xs) e l = ((xs, e), tail_is (name x) (name y) t _ l)
 
-name_step : {E : Type 0} (tok : E → Lexeme) (x : List ℕ) (ts : List Lexeme) (r : Result ((List (List ℕ) × E) × List Lexeme) Stop) → Tells (Later tok) ts r → Tells (Names tok) (name x ∷ ts) (r >>= λ z. Ok ((x ∷ z.0.0, z.0.1), z.1))
+name_step : {E : Type 0} (tok : E → Lexeme) (x : List ℕ) (ts : List Lexeme) (r : Result ((List (List ℕ) × E) × List Lexeme) Stop)
+    → Tells (Later tok) ts r → Tells (Names tok) (name x ∷ ts) (r >>= λ z. Ok ((x ∷ z.0.0, z.0.1), z.1))
 name_step {E} tok x ts r h = behind (name x) (Names tok) ts (r >>= λ z. Ok ((x ∷ z.0.0, z.0.1), z.1)) (record {
   told = carried (λ (v : List (List ℕ) × E). (x ∷ v.0, v.1)) (Later tok) (Behind (name x) (Names tok)) ts (λ t v l. ap (λ (u : List Lexeme). name x ∷ u) l)
-      (λ front rest parts c d after further v at stands l. name_from tok x (front ++ d ∷ further) v.0 v.1 l) r h.told;
+      (λ prefix rest parts c d after further v at stands l. name_from tok x (prefix ++ d ∷ further) v.0 v.1 l) r h.told;
 })
 
-names_at : {E : Type 0} (tok : E → Lexeme) (ends : Lexeme → Seen E) → Ends tok ends → (c : Lexeme) (ts : List Lexeme) → Tells (Later tok) ts (names_from ends false ts) → (s : Seen (List ℕ)) → a_name c ≡ s
+names_at : {E : Type 0} (tok : E → Lexeme) (ends : Lexeme → Seen E) → Ends tok ends → (c : Lexeme) (ts : List Lexeme)
+    → Tells (Later tok) ts (names_from ends false ts) → (s : Seen (List ℕ)) → a_name c ≡ s
     → Tells (Names tok) (c ∷ ts) (take_seen s ts >>= λ x. names_from ends false ts >>= λ r. Ok ((x.0 ∷ r.0.0, r.0.1), r.1))
-names_at tok ends en c ts h (taken x) is = subst (λ (z : Lexeme). Tells (Names tok) (z ∷ ts) (names_from ends false ts >>= λ r. Ok ((x ∷ r.0.0, r.0.1), r.1))) (sym (name_takes c x is)) (name_step tok x ts (names_from ends false ts) h)
+names_at tok ends en c ts h (taken x) is =
+    subst (λ (z : Lexeme). Tells (Names tok) (z ∷ ts) (names_from ends false ts >>= λ r. Ok ((x ∷ r.0.0, r.0.1), r.1)))
+    (sym (name_takes c x is)) (name_step tok x ts (names_from ends false ts) h)
 names_at tok ends en c ts h wrong is = wrong_first a_name (Names tok) (names_begun tok en.sees.some) c ts is
 names_at tok ends en c ts h (above w) is = let k = names_exceeds tok en.sees.some c w is in exceeded_first (Names tok) c k.0 ts w k.1 k.2
 
-later_from : {E : Type 0} (tok : E → Lexeme) (ends : Lexeme → Seen E) → Ends tok ends → (t : List Lexeme) (xs : List (List ℕ)) (e : E) → symbol mark.Comma ∷ t ≡ more_names xs ++ tok e ∷ [] → Listed tok t xs e
+later_from : {E : Type 0} (tok : E → Lexeme) (ends : Lexeme → Seen E) → Ends tok ends → (t : List Lexeme) (xs : List (List ℕ)) (e : E)
+    → symbol mark.Comma ∷ t ≡ more_names xs ++ tok e ∷ [] → Listed tok t xs e
 later_from tok ends en t [] e l = absurd (en.apart e (sym (head_is (symbol mark.Comma) (tok e) t [] l)))
 later_from tok ends en t (x ∷ xs) e l = tail_is (symbol mark.Comma) (symbol mark.Comma) t _ l
 
-later_to : {E : Type 0} (tok : E → Lexeme) (t : List Lexeme) (xs : List (List ℕ)) (e : E) → Listed tok t xs e → symbol mark.Comma ∷ t ≡ more_names xs ++ tok e ∷ []
+later_to : {E : Type 0} (tok : E → Lexeme) (t : List Lexeme) (xs : List (List ℕ)) (e : E) → Listed tok t xs e → symbol mark.Comma ∷ t
+    ≡ more_names xs ++ tok e ∷ []
 later_to tok t [] e l = absurd l
 later_to tok t (x ∷ xs) e l = ap (λ (u : List Lexeme). symbol mark.Comma ∷ u) l
 
-later_at : {E : Type 0} (tok : E → Lexeme) (ends : Lexeme → Seen E) → Ends tok ends → (c : Lexeme) (ts : List Lexeme) → Tells (Names tok) ts (names_from ends true ts) → (s : Seen (Option E)) → comma_or ends c ≡ s
+later_at : {E : Type 0} (tok : E → Lexeme) (ends : Lexeme → Seen E) → Ends tok ends → (c : Lexeme) (ts : List Lexeme)
+    → Tells (Names tok) ts (names_from ends true ts) → (s : Seen (Option E)) → comma_or ends c ≡ s
     → Tells (Later tok) (c ∷ ts) (take_seen s ts >>= λ o. elim (o.0) [ None ↦ names_from ends true ts | Some e ↦ Ok (([], e), ts) ])
-later_at tok ends en c ts h (taken None) is = subst (λ (z : Lexeme). Tells (Later tok) (z ∷ ts) (names_from ends true ts)) (sym (comma_none ends c is)) (behind (symbol mark.Comma) (Later tok) ts (names_from ends true ts) (record {
-  told = moved (Names tok) (Behind (symbol mark.Comma) (Later tok)) ts (λ t v l. later_to tok t v.0 v.1 l) (λ t v l. later_from tok ends en t v.0 v.1 l) (names_from ends true ts) h.told;
-}))
-later_at tok ends en c ts h (taken (Some e)) is = record { told = record { text = c ∷ []; parts = refl; spelled = ap (λ (z : Lexeme). z ∷ []) (en.sees.takes c e (comma_some ends c e is)) } }
+later_at tok ends en c ts h (taken None) is =
+    subst (λ (z : Lexeme). Tells (Later tok) (z ∷ ts) (names_from ends true ts)) (sym (comma_none ends c is))
+    (behind (symbol mark.Comma) (Later tok) ts (names_from ends true ts) (record {
+      told = moved (Names tok) (Behind (symbol mark.Comma) (Later tok)) ts (λ t v l. later_to tok t v.0 v.1 l)
+          (λ t v l. later_from tok ends en t v.0 v.1 l) (names_from ends true ts) h.told;
+    }))
+later_at tok ends en c ts h (taken (Some e)) is =
+    record { told = record { text = c ∷ []; parts = refl; spelled = ap (λ (z : Lexeme). z ∷ []) (en.sees.takes c e (comma_some ends c e is)) } }
 later_at tok ends en c ts h wrong is = wrong_first (comma_or ends) (Later tok) (later_begun tok ends en) c ts is
 later_at tok ends en c ts h (above w) is = absurd (en.low c w (comma_low ends c w is))
 
-names_tell : {E : Type 0} (tok : E → Lexeme) (ends : Lexeme → Seen E) → Ends tok ends → (ts : List Lexeme) → Tells (Names tok) ts (names_from ends true ts) × Tells (Later tok) ts (names_from ends false ts)
+names_tell : {E : Type 0} (tok : E → Lexeme) (ends : Lexeme → Seen E) → Ends tok ends → (ts : List Lexeme)
+    → Tells (Names tok) ts (names_from ends true ts) × Tells (Later tok) ts (names_from ends false ts)
 unfolding names_from
 names_tell tok ends en [] = (ended a_name (Names tok) (names_begun tok en.sees.some), ended (comma_or ends) (Later tok) (later_begun tok ends en))
 names_tell tok ends en (c ∷ ts) =

@@ -23,9 +23,9 @@ plain_join : (t u : List Lexeme) → Plain t → Plain u → Plain (t ++ u)
 plain_join [] u p q = q
 plain_join (c ∷ t) u p q = (p.0, plain_join t u p.1 q)
 
-pub plain_front : (t u : List Lexeme) → Plain (t ++ u) → Plain t
-plain_front [] u p = tt
-plain_front (c ∷ t) u p = (p.0, plain_front t u p.1)
+pub plain_prefix : (t u : List Lexeme) → Plain (t ++ u) → Plain t
+plain_prefix [] u p = tt
+plain_prefix (c ∷ t) u p = (p.0, plain_prefix t u p.1)
 
 plain_by : (t u : List Lexeme) → t ≡ u → Plain u → Plain t
 plain_by t u e p = subst Plain (sym e) p
@@ -36,7 +36,8 @@ plain_formula : (a : Expr) (t : List Lexeme) → SpellsFormula t a → Plain t
 plain_formula (constant n) t l = plain_by t _ l (refl, tt)
 plain_formula (length_of x) t l = plain_by t _ l (refl, (refl, (refl, tt)))
 plain_formula (plus e f) t l = plain_by t _ l.2 (refl, plain_join l.0 _ (plain_formula e l.0 l.3) (refl, plain_join l.1 _ (plain_formula f l.1 l.4) (refl, tt)))
-plain_formula (minus e f) t l = plain_by t _ l.2 (refl, plain_join l.0 _ (plain_formula e l.0 l.3) (refl, plain_join l.1 _ (plain_formula f l.1 l.4) (refl, tt)))
+plain_formula (minus e f) t l =
+    plain_by t _ l.2 (refl, plain_join l.0 _ (plain_formula e l.0 l.3) (refl, plain_join l.1 _ (plain_formula f l.1 l.4) (refl, tt)))
 
 plain_test : (p : Pred) (t : List Lexeme) → SpellsTest t p → Plain t
 plain_test always t l = plain_by t _ l (refl, tt)
@@ -70,14 +71,16 @@ mutual
   plain_branch : (g : Guarded) (t : List Lexeme) → SpellsBranch t g → Plain t
   plain_branch (auth party body) t l = plain_by t _ l.1 (refl, (refl, plain_branch body l.0 l.2))
   plain_branch (after height body) t l = plain_by t _ l.1 (refl, (refl, (refl, plain_branch body l.0 l.2)))
-  plain_branch (put_reveal puts reveals test next) t l = plain_by t _ l.2 (plain_join l.0 _ (plain_heading l.0 puts reveals test l.3) (refl, plain_choice next l.1 l.4))
+  plain_branch (put_reveal puts reveals test next) t l =
+      plain_by t _ l.2 (plain_join l.0 _ (plain_heading l.0 puts reveals test l.3) (refl, plain_choice next l.1 l.4))
   plain_branch (withdraw party) t l = plain_by t _ l (refl, (refl, tt))
   plain_branch (split parts) t l = plain_by t _ l.1 (refl, (refl, plain_join l.0 _ (plain_parts parts l.0 l.2) (refl, tt)))
 
   plain_choice : (c : Contract) (t : List Lexeme) → SpellsChoice t c → Plain t
   plain_choice no_branch t l = absurd l
   plain_choice (branch g bs) t (inl w) = plain_branch g t w.0
-  plain_choice (branch g bs) t (inr w) = plain_by t _ w.2 (refl, plain_join w.0 _ (plain_branch g w.0 w.3) (plain_join w.1 _ (plain_more bs w.1 w.4) (refl, tt)))
+  plain_choice (branch g bs) t (inr w) =
+      plain_by t _ w.2 (refl, plain_join w.0 _ (plain_branch g w.0 w.3) (plain_join w.1 _ (plain_more bs w.1 w.4) (refl, tt)))
 
   plain_more : (c : Contract) (t : List Lexeme) → SpellsMore t c → Plain t
   plain_more no_branch t l = plain_by t _ l tt
@@ -111,7 +114,9 @@ plain_fee t fee (inl w) = plain_by t _ w.0 tt
 plain_fee t fee (inr w) = plain_by t _ w (refl, (refl, tt))
 
 pub plain_advert : (t : List Lexeme) (advert : Advert) → Spells t advert → Plain t
-plain_advert t advert s = plain_by t _ s.parts (plain_join s.pre_part _ (plain_pre s.pre_part advert.pre s.pre) (plain_join s.fee_part s.root_part (plain_fee s.fee_part advert.fee s.fee) (plain_choice advert.root s.root_part s.root)))
+plain_advert t advert s = plain_by t _ s.parts
+    (plain_join s.pre_part _ (plain_pre s.pre_part advert.pre s.pre)
+    (plain_join s.fee_part s.root_part (plain_fee s.fee_part advert.fee s.fee) (plain_choice advert.root s.root_part s.root)))
 
 -- ---- what plain tokens stand for
 
@@ -120,13 +125,14 @@ plain_stands long_name (name bytes) h st = absurd cc
 plain_stands huge_number (number n) h st = absurd cc
 plain_stands c d h st = st
 
--- what stands for a plain front and one token more begins with that front
-pub stands_front : (front : List Lexeme) (c : Lexeme) (within m : List Lexeme) → Plain front → StandFor (front ++ c ∷ within) m → (d : Lexeme) × (rest : List Lexeme) × StandsFor c d × (m ≡ front ++ d ∷ rest)
-stands_front [] c within [] p st = absurd st
-stands_front [] c within (d ∷ rest) p st = (d, rest, st.0, refl)
-stands_front (x ∷ front) c within [] p st = absurd st
-stands_front (x ∷ front) c within (y ∷ m) p st =
-    let r = stands_front front c within m p.1 st.1 in
+-- what stands for a plain front and one token more begins with that prefix
+pub stands_prefix : (prefix : List Lexeme) (c : Lexeme) (within m : List Lexeme) → Plain prefix → StandFor (prefix ++ c ∷ within) m
+    → (d : Lexeme) × (rest : List Lexeme) × StandsFor c d × (m ≡ prefix ++ d ∷ rest)
+stands_prefix [] c within [] p st = absurd st
+stands_prefix [] c within (d ∷ rest) p st = (d, rest, st.0, refl)
+stands_prefix (x ∷ prefix) c within [] p st = absurd st
+stands_prefix (x ∷ prefix) c within (y ∷ m) p st =
+    let r = stands_prefix prefix c within m p.1 st.1 in
     let same : x ≡ y = plain_stands x y p.0 st.0 in
     (r.0, r.1, r.2, λ i. sym same i ∷ r.3 i)
 

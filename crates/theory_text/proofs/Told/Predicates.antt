@@ -53,12 +53,19 @@ some_test : Some_text SpellsTest
 some_test = record { text = keyword word.True ∷ []; value = always; spelled = refl }
 
 compared : (n : ℕ) → Some_text (Behind (number n) SpellsTest)
-compared n = record { text = symbol mark.Equal ∷ number 0 ∷ []; value = equal (constant n) (constant 0); spelled = (number n ∷ [], number 0 ∷ [], refl, refl, refl) }
+compared n =
+    record { text = symbol mark.Equal ∷ number 0 ∷ []; value = equal (constant n) (constant 0); spelled = (number n ∷ [], number 0 ∷ [], refl, refl, refl) }
 
 test_begins : (c : Lexeme) (v : Unit {0}) → begins_test c ≡ taken v → Some_text (Behind c SpellsTest)
 test_begins (keyword word.True) v h = record { text = []; value = always; spelled = refl }
 test_begins (keyword word.Not) v h = record { text = keyword word.True ∷ []; value = negation always; spelled = (keyword word.True ∷ [], refl, refl) }
-test_begins (symbol mark.LeftBracket) v h = record { text = keyword word.True ∷ keyword word.And ∷ keyword word.True ∷ symbol mark.RightBracket ∷ []; value = both always always; spelled = (keyword word.True ∷ [], keyword word.True ∷ [], refl, refl, refl) }
+test_begins (symbol mark.LeftBracket) v h =
+    record {
+      text = keyword word.True ∷ keyword word.And ∷ keyword word.True ∷ symbol mark.RightBracket
+          ∷ [];
+      value = both always always;
+      spelled = (keyword word.True ∷ [], keyword word.True ∷ [], refl, refl, refl);
+    }
 test_begins (number n) v h = compared n
 test_begins (symbol mark.Bar) v h = record {
   text = name [] ∷ symbol mark.Bar ∷ symbol mark.Equal ∷ number 0 ∷ [];
@@ -68,7 +75,14 @@ test_begins (symbol mark.Bar) v h = record {
 test_begins (symbol mark.LeftParen) v h = record {
   text = number 0 ∷ symbol mark.Plus ∷ number 0 ∷ symbol mark.RightParen ∷ symbol mark.Equal ∷ number 0 ∷ [];
   value = equal (plus (constant 0) (constant 0)) (constant 0);
-  spelled = (symbol mark.LeftParen ∷ number 0 ∷ symbol mark.Plus ∷ number 0 ∷ symbol mark.RightParen ∷ [], number 0 ∷ [], refl, (number 0 ∷ [], number 0 ∷ [], refl, refl, refl), refl);
+  spelled = (
+    symbol mark.LeftParen ∷ number 0 ∷ symbol mark.Plus ∷ number 0 ∷ symbol mark.RightParen ∷ [],
+    number 0
+        ∷ [],
+    refl,
+    (number 0 ∷ [], number 0 ∷ [], refl, refl, refl),
+    refl,
+  );
 }
 test_begins c v h = absurd cc
 
@@ -128,31 +142,33 @@ the_relation = marks true relation_takes relation_back relation_low relation_mar
 abbrev Comparison : List Lexeme → Pred → Type 0
 Comparison = Seq SpellsFormula (λ e. Seq (As relation_token) (λ o. Seq SpellsFormula (λ f. Nothing (related o e f))))
 
-related_to : (t : List Lexeme) (o : Bool) (e f : Expr) (te tf : List Lexeme) → t ≡ te ++ relation_token o ∷ tf → SpellsFormula te e → SpellsFormula tf f → SpellsTest t (related o e f)
+related_to : (t : List Lexeme) (o : Bool) (e f : Expr) (te tf : List Lexeme) → t ≡ te ++ relation_token o ∷ tf → SpellsFormula te e
+    → SpellsFormula tf f → SpellsTest t (related o e f)
 related_to t true e f te tf is l m = (te, tf, is, l, m)
 related_to t false e f te tf is l m = (te, tf, is, l, m)
 
 comparison_to : (t : List Lexeme) (p : Pred) → Comparison t p → SpellsTest t p
 comparison_to t p s =
     let r = s.back.back in
-    let is : t ≡ s.first ++ relation_token s.back.value ∷ (r.first ++ []) = s.parts ∙ rw (s.back.parts, s.back.front.single, r.parts, r.back.empty) refl in
+    let is : t ≡ s.first ++ relation_token s.back.value ∷ (r.first ++ []) = s.parts ∙ rw (s.back.parts, s.back.prefix.single, r.parts, r.back.empty) refl in
     let is' : t ≡ s.first ++ relation_token s.back.value ∷ r.first = is ∙ rw (append-nil r.first) refl in
-    subst (SpellsTest t) r.back.same (related_to t s.back.value s.value r.value s.first r.first is' s.front r.front)
+    subst (SpellsTest t) r.back.same (related_to t s.back.value s.value r.value s.first r.first is' s.prefix r.prefix)
 
-comparison_of : (t : List Lexeme) (o : Bool) (e f : Expr) (te tf : List Lexeme) → t ≡ te ++ relation_token o ∷ tf → SpellsFormula te e → SpellsFormula tf f → Comparison t (related o e f)
+comparison_of : (t : List Lexeme) (o : Bool) (e f : Expr) (te tf : List Lexeme) → t ≡ te ++ relation_token o ∷ tf → SpellsFormula te e
+    → SpellsFormula tf f → Comparison t (related o e f)
 comparison_of t o e f te tf is l m = record {
   first = te;
   second = relation_token o ∷ tf;
   value = e;
   parts = is;
-  front = l;
+  prefix = l;
   back = record {
     first = relation_token o ∷ [];
     second = tf;
     value = o;
     parts = refl;
-    front = record { single = refl };
-    back = record { first = tf; second = []; value = f; parts = sym (append-nil tf); front = m; back = record { empty = refl; same = refl } };
+    prefix = record { single = refl };
+    back = record { first = tf; second = []; value = f; parts = sym (append-nil tf); prefix = m; back = record { empty = refl; same = refl } };
   };
 }
 
@@ -184,7 +200,8 @@ a_comparison d =
     pure (related o e f))))
 
 comparison_clear : (n : ℕ) → Clear_to n Comparison
-comparison_clear n = clear_seq (clear_to formula_clear) (λ e. clear_seq (clear_to (clear_as the_relation)) (λ o. clear_seq (clear_to formula_clear) (λ f. clear_pure (related o e f))))
+comparison_clear n = clear_seq (clear_to formula_clear)
+    (λ e. clear_seq (clear_to (clear_as the_relation)) (λ o. clear_seq (clear_to formula_clear) (λ f. clear_pure (related o e f))))
 
 -- ---- the constant
 
@@ -203,25 +220,36 @@ Negation = Seq SpellsTest (λ p. Nothing (negation p))
 negation_to : (t : List Lexeme) (p : Pred) → Negation t p → Behind (keyword word.Not) SpellsTest t p
 negation_to t p s =
     let is : t ≡ s.first = s.parts ∙ rw (s.back.empty, append-nil s.first) refl in
-    subst (Behind (keyword word.Not) SpellsTest t) s.back.same ((s.first, ap (λ (u : List Lexeme). keyword word.Not ∷ u) is, s.front))
+    subst (Behind (keyword word.Not) SpellsTest t) s.back.same ((s.first, ap (λ (u : List Lexeme). keyword word.Not ∷ u) is, s.prefix))
 
 negation_from : (t : List Lexeme) (p : Pred) → Behind (keyword word.Not) SpellsTest t p → Negation t p
 negation_from t always l = absurd cc
 negation_from t (both p q) l = let k = l.2 in absurd cc
-negation_from t (negation p) l = record { first = t; second = []; value = p; parts = sym (append-nil t); front = subst (λ (z : List Lexeme). SpellsTest z p) (sym (tail_is _ _ t l.0 l.1)) l.2; back = record { empty = refl; same = refl } }
+negation_from t (negation p) l =
+    record {
+      first = t;
+      second = [];
+      value = p;
+      parts = sym (append-nil t);
+      prefix = subst (λ (z : List Lexeme). SpellsTest z p)
+          (sym (tail_is _ _ t l.0 l.1)) l.2;
+      back = record { empty = refl; same = refl };
+    }
 negation_from t (equal e f) l = absurd (starts_wrong (keyword word.Not) t l.0 l.1 (symbol mark.Equal) e l.2 l.3 refl)
 negation_from t (less e f) l = absurd (starts_wrong (keyword word.Not) t l.0 l.1 (symbol mark.Less) e l.2 l.3 refl)
 
 -- ---- both
 
 abbrev Both : List Lexeme → Pred → Type 0
-Both = Seq SpellsTest (λ p. Seq (As (that (keyword word.And))) (λ u. Seq SpellsTest (λ q. Seq (As (that (symbol mark.RightBracket))) (λ v. Nothing (both p q)))))
+Both =
+    Seq SpellsTest (λ p. Seq (As (that (keyword word.And))) (λ u. Seq SpellsTest (λ q. Seq (As (that (symbol mark.RightBracket))) (λ v. Nothing (both p q)))))
 
 both_to : (t : List Lexeme) (p : Pred) → Both t p → Behind (symbol mark.LeftBracket) SpellsTest t p
 both_to t p s =
     let r = s.back.back in
-    let is : t ≡ s.first ++ keyword word.And ∷ (r.first ++ symbol mark.RightBracket ∷ []) = s.parts ∙ rw (s.back.parts, s.back.front.single, r.parts, r.back.parts, r.back.front.single, r.back.back.empty) refl in
-    subst (Behind (symbol mark.LeftBracket) SpellsTest t) r.back.back.same ((s.first, r.first, ap (λ (u : List Lexeme). symbol mark.LeftBracket ∷ u) is, s.front, r.front))
+    let is : t ≡ s.first ++ keyword word.And ∷ (r.first ++ symbol mark.RightBracket ∷ []) = s.parts ∙ rw (s.back.parts, s.back.prefix.single, r.parts, r.back.parts, r.back.prefix.single, r.back.back.empty) refl in
+    subst (Behind (symbol mark.LeftBracket) SpellsTest t) r.back.back.same
+    ((s.first, r.first, ap (λ (u : List Lexeme). symbol mark.LeftBracket ∷ u) is, s.prefix, r.prefix))
 
 both_from : (t : List Lexeme) (p : Pred) → Behind (symbol mark.LeftBracket) SpellsTest t p → Both t p
 both_from t always l = absurd cc
@@ -230,20 +258,28 @@ both_from t (both p q) l = let k = l.2 in record {
   second = keyword word.And ∷ (l.1 ++ symbol mark.RightBracket ∷ []);
   value = p;
   parts = cc;
-  front = l.3;
+  prefix = l.3;
   back = record {
     first = keyword word.And ∷ [];
     second = l.1 ++ symbol mark.RightBracket ∷ [];
     value = tt;
     parts = refl;
-    front = record { single = refl };
+    prefix = record { single = refl };
     back = record {
       first = l.1;
       second = symbol mark.RightBracket ∷ [];
       value = q;
       parts = refl;
-      front = l.4;
-      back = record { first = symbol mark.RightBracket ∷ []; second = []; value = tt; parts = refl; front = record { single = refl }; back = record { empty = refl; same = refl } };
+      prefix = l.4;
+      back = record {
+        first = symbol mark.RightBracket
+            ∷ [];
+        second = [];
+        value = tt;
+        parts = refl;
+        prefix = record { single = refl };
+        back = record { empty = refl; same = refl };
+      };
     };
   };
 }
@@ -257,7 +293,8 @@ test_part : (n : ℕ) → Clear_to n SpellsTest → (c : Lexeme) → Clear_to n 
 test_part n h (keyword word.True) = clear_from (Behind (keyword word.True) SpellsTest) always_from (clear_pure always)
 test_part n h (keyword word.Not) = clear_from (Behind (keyword word.Not) SpellsTest) negation_from (clear_seq h (λ p. clear_pure (negation p)))
 test_part n h (symbol mark.LeftBracket) = clear_from (Behind (symbol mark.LeftBracket) SpellsTest) both_from
-    (clear_seq h (λ p. clear_seq (clear_to (clear_as (the_keyword word.And refl))) (λ u. clear_seq h (λ q. clear_seq (clear_to (clear_as (the_symbol mark.RightBracket refl))) (λ v. clear_pure (both p q))))))
+    (clear_seq h (λ p. clear_seq (clear_to (clear_as (the_keyword word.And refl)))
+    (λ u. clear_seq h (λ q. clear_seq (clear_to (clear_as (the_symbol mark.RightBracket refl))) (λ v. clear_pure (both p q))))))
 test_part n h c = clear_from (Behind c SpellsTest) (λ t p l. comparison_from c t p refl l) (clear_behind c (comparison_clear (suc n)))
 
 test_clear_to : (n : ℕ) → Clear_to n SpellsTest
@@ -287,8 +324,10 @@ unfolding test_at
 test_step d h [] = ended begins_test SpellsTest test_begun
 test_step d h (keyword word.True ∷ ts) = record { told = record { text = keyword word.True ∷ []; parts = refl; spelled = refl } }
 test_step d h (keyword word.Not ∷ ts) = behind (keyword word.Not) SpellsTest ts (test_at (suc d) (keyword word.Not ∷ ts)) ((a_negation d h).tells ts)
-test_step d h (symbol mark.LeftBracket ∷ ts) = behind (symbol mark.LeftBracket) SpellsTest ts (test_at (suc d) (symbol mark.LeftBracket ∷ ts)) ((a_both d h).tells ts)
-test_step d h (c ∷ ts) = narrow Comparison SpellsTest starts_word c ts (λ e st. no_word c e refl st) comparison_to (λ e t p no' l. comparison_from e t p no' l) (comparison_at d (c ∷ ts)) ((a_comparison d).tells (c ∷ ts))
+test_step d h (symbol mark.LeftBracket ∷ ts) =
+    behind (symbol mark.LeftBracket) SpellsTest ts (test_at (suc d) (symbol mark.LeftBracket ∷ ts)) ((a_both d h).tells ts)
+test_step d h (c ∷ ts) = narrow Comparison SpellsTest starts_word c ts (λ e st. no_word c e refl st) comparison_to
+    (λ e t p no' l. comparison_from e t p no' l) (comparison_at d (c ∷ ts)) ((a_comparison d).tells (c ∷ ts))
 
 test_zero : (ts : List Lexeme) → Tells SpellsTest ts (test_at 0 ts)
 unfolding test_at

@@ -30,18 +30,21 @@ pub record As {A : Type 0} (tok : A → Lexeme) (text : List Lexeme) (a : A) : T
 as_some : {A : Type 0} {tok : A → Lexeme} (a : A) → Some_text (As tok)
 as_some {tok = tok} a = record { text = tok a ∷ []; value = a; spelled = record { single = refl } }
 
-refused : {A : Type 0} (tok : A → Lexeme) (see : Lexeme → Seen A) → Sees tok see → (c : Lexeme) (ts : List Lexeme) → see c ≡ wrong → (d e : Lexeme) (after further : List Lexeme) (a : A) → c ∷ ts ≡ d ∷ after → StandsFor d e → As tok (e ∷ further) a → ⊥
+refused : {A : Type 0} (tok : A → Lexeme) (see : Lexeme → Seen A) → Sees tok see → (c : Lexeme) (ts : List Lexeme) → see c ≡ wrong
+    → (d e : Lexeme) (after further : List Lexeme) (a : A) → c ∷ ts ≡ d ∷ after → StandsFor d e → As tok (e ∷ further) a → ⊥
 refused tok see s c ts h d e after further a at stands l =
     let same : c ≡ d = cc in
     let single = l.single in
     let is : e ≡ tok a = cc in
     s.refuses c a h (subst (λ (z : Lexeme). StandsFor c z) is (subst (λ (z : Lexeme). StandsFor z e) (sym same) stands))
 
-token_at : {A : Type 0} (tok : A → Lexeme) (see : Lexeme → Seen A) → Sees tok see → (c : Lexeme) (ts : List Lexeme) (x : Seen A) → see c ≡ x → Tells (As tok) (c ∷ ts) (take_seen x ts)
-token_at tok see s c ts (taken a) h = record { told = record { text = c ∷ []; parts = refl; spelled = record { single = ap (λ (z : Lexeme). z ∷ []) (s.takes c a h) } } }
+token_at : {A : Type 0} (tok : A → Lexeme) (see : Lexeme → Seen A) → Sees tok see → (c : Lexeme) (ts : List Lexeme) (x : Seen A) → see c ≡ x
+    → Tells (As tok) (c ∷ ts) (take_seen x ts)
+token_at tok see s c ts (taken a) h =
+    record { told = record { text = c ∷ []; parts = refl; spelled = record { single = ap (λ (z : Lexeme). z ∷ []) (s.takes c a h) } } }
 token_at tok see s c ts wrong h = record {
   told = record {
-    front = [];
+    prefix = [];
     rest = c ∷ ts;
     parts = refl;
     left_is = refl;
@@ -57,7 +60,7 @@ token_at tok see s c ts (above w) h = let x = s.exceeds c w h in exceeded_first 
 token_tells : {A : Type 0} (tok : A → Lexeme) (see : Lexeme → Seen A) → Sees tok see → (ts : List Lexeme) → Tells (As tok) ts (token_by see ts)
 token_tells tok see s [] = record {
   told = record {
-    front = [];
+    prefix = [];
     rest = [];
     parts = refl;
     left_is = refl;
@@ -105,7 +108,8 @@ wrong_took : {A : Type 0} (a : A) → wrong ≡ took a → ⊥
 wrong_took a h = absurd cc
 
 -- a test that takes nothing but symbols and keywords
-pub marks : {A : Type 0} {tok : A → Lexeme} {see : Lexeme → Seen A} → A → ((c : Lexeme) (a : A) → see c ≡ taken a → c ≡ tok a) → ((a : A) → see (tok a) ≡ taken a) → ((c : Lexeme) (w : Limit) → see c ≡ above w → ⊥) → ((a : A) → is_mark (tok a) ≡ true) → Sees tok see
+pub marks : {A : Type 0} {tok : A → Lexeme} {see : Lexeme → Seen A} → A → ((c : Lexeme) (a : A) → see c ≡ taken a → c ≡ tok a)
+    → ((a : A) → see (tok a) ≡ taken a) → ((c : Lexeme) (w : Limit) → see c ≡ above w → ⊥) → ((a : A) → is_mark (tok a) ≡ true) → Sees tok see
 marks {A} {tok = tok} {see = see} v takes back low proper = record {
   some = v;
   takes = takes;

@@ -14,30 +14,32 @@ use Rattle.theory_bitcoin.proofs.Languages.{Taken, longer}
 use Rattle.theory_text.proofs.Told.Tells.{Stopped, Exceeded, Told}
 use Rattle.theory_text.proofs.Told.FirstToken.{stands_itself}
 use Rattle.theory_text.proofs.Told.AdvertReaders.{advert_clear, advert_exact}
-use Rattle.theory_text.proofs.Told.PlainTexts.{Plain, plain_front, plain_advert, stands_front, stand_themselves, stand_and_one}
+use Rattle.theory_text.proofs.Told.PlainTexts.{Plain, plain_prefix, plain_advert, stands_prefix, stand_themselves, stand_and_one}
 
--- no advert goes on after this front with the next token
+-- no advert goes on after this prefix with the next token
 abbrev Ended : List Lexeme → List Lexeme → Type 0
-Ended front rest = (c d : Lexeme) (after further : List Lexeme) (a : Advert) → rest ≡ c ∷ after → StandsFor c d → Spells (front ++ d ∷ further) a → ⊥
+Ended prefix rest = (c d : Lexeme) (after further : List Lexeme) (a : Advert) → rest ≡ c ∷ after → StandsFor c d → Spells (prefix ++ d ∷ further) a → ⊥
 
-not_longer : (t front rest : List Lexeme) → t ≡ front ++ rest → Plain front → Ended front rest → (q : ℕ) → length front < q → q ≤ length t → Begins (take q t) → ⊥
-not_longer t front rest parts plain ends q lt le b =
-    let w = longer front rest q lt (subst (λ (z : List Lexeme). q ≤ length z) parts le) in
-    let is : take q t ≡ front ++ w.0 ∷ w.2 = ap (take q) parts ∙ w.4 in
-    let m = stands_front front w.0 w.2 b.meant plain (subst (λ (z : List Lexeme). StandFor z b.meant) is b.stand) in
-    let text : b.meant ++ b.more ≡ front ++ m.0 ∷ (m.1 ++ b.more) = ap (λ (z : List Lexeme). z ++ b.more) m.3 ∙ append_assoc front (m.0 ∷ m.1) b.more in
+not_longer : (t prefix rest : List Lexeme) → t ≡ prefix ++ rest → Plain prefix → Ended prefix rest → (q : ℕ) → length prefix < q
+    → q ≤ length t → Begins (take q t) → ⊥
+not_longer t prefix rest parts plain ends q lt le b =
+    let w = longer prefix rest q lt (subst (λ (z : List Lexeme). q ≤ length z) parts le) in
+    let is : take q t ≡ prefix ++ w.0 ∷ w.2 = ap (take q) parts ∙ w.4 in
+    let m = stands_prefix prefix w.0 w.2 b.meant plain (subst (λ (z : List Lexeme). StandFor z b.meant) is b.stand) in
+    let text : b.meant ++ b.more ≡ prefix ++ m.0 ∷ (m.1 ++ b.more) = ap (λ (z : List Lexeme). z ++ b.more) m.3 ∙ append_assoc prefix (m.0 ∷ m.1) b.more in
     ends w.0 m.0 w.1 (m.1 ++ b.more) b.advert w.3 m.2 (subst (λ (z : List Lexeme). Spells z b.advert) text b.spelled)
 
-syntax_at : (t front rest more : List Lexeme) (a : Advert) → t ≡ front ++ rest → Spells (front ++ more) a → Ended front rest → ((b : Advert) → Spells t b → ⊥) → IsSyntaxAt t (length t - length rest)
-syntax_at t front rest more a parts begins ends none =
-    let len : length t ≡ length front + length rest = ap length parts ∙ length-append front rest in
-    let place : length t - length rest ≡ length front = omega arith in
-    let fronts : take (length t - length rest) t ≡ front = rw (place, parts) (take_at front rest (length front) refl) in
-    let plain = plain_front front more (plain_advert (front ++ more) a begins) in
+syntax_at : (t prefix rest more : List Lexeme) (a : Advert) → t ≡ prefix ++ rest → Spells (prefix ++ more) a → Ended prefix rest
+    → ((b : Advert) → Spells t b → ⊥) → IsSyntaxAt t (length t - length rest)
+syntax_at t prefix rest more a parts begins ends none =
+    let len : length t ≡ length prefix + length rest = ap length parts ∙ length-append prefix rest in
+    let place : length t - length rest ≡ length prefix = omega arith in
+    let prefixes : take (length t - length rest) t ≡ prefix = rw (place, parts) (take_at prefix rest (length prefix) refl) in
+    let plain = plain_prefix prefix more (plain_advert (prefix ++ more) a begins) in
     record {
       within = omega arith;
-      begins = record { meant = front; stand = rw fronts (stand_themselves front); more = more; advert = a; spelled = begins };
-      longest = λ q lt le b. not_longer t front rest parts plain ends q (omega (arith, lt)) le b;
+      begins = record { meant = prefix; stand = rw prefixes (stand_themselves prefix); more = more; advert = a; spelled = begins };
+      longest = λ q lt le b. not_longer t prefix rest parts plain ends q (omega (arith, lt)) le b;
       none = none;
     }
 
@@ -66,28 +68,40 @@ trailing text x a b l m = (advert_clear.apart text x (text ++ x) [] a b l m (sym
 no_trailing : (text : List Lexeme) (c : Lexeme) (x : List Lexeme) (a b : Advert) → Spells text a → Spells (text ++ c ∷ x) b → ⊥
 no_trailing text c x a b l m = let e = trailing text (c ∷ x) a b l m in absurd cc
 
-inside : (front more : List Lexeme) (next : Lexeme) (a b : Advert) → Spells (front ++ next ∷ more) a → Spells front b → ⊥
-inside front more next a b l m = no_trailing front next more b a m l
+inside : (prefix more : List Lexeme) (next : Lexeme) (a b : Advert) → Spells (prefix ++ next ∷ more) a → Spells prefix b → ⊥
+inside prefix more next a b l m = no_trailing prefix next more b a m l
 
-none_stopped : (t front rest more : List Lexeme) (next : Lexeme) (a : Advert) → t ≡ front ++ rest → Spells (front ++ next ∷ more) a → Ended front rest → (b : Advert) → Spells t b → ⊥
-none_stopped t front [] more next a parts begins ends b l = inside front more next a b begins (subst (λ (z : List Lexeme). Spells z b) (parts ∙ append-nil front) l)
-none_stopped t front (c ∷ rest) more next a parts begins ends b l = ends c c rest rest b refl (stands_itself c) (subst (λ (z : List Lexeme). Spells z b) parts l)
+none_stopped : (t prefix rest more : List Lexeme) (next : Lexeme) (a : Advert) → t ≡ prefix ++ rest → Spells (prefix ++ next ∷ more) a
+    → Ended prefix rest → (b : Advert) → Spells t b → ⊥
+none_stopped t prefix [] more next a parts begins ends b l =
+    inside prefix more next a b begins (subst (λ (z : List Lexeme). Spells z b) (parts ∙ append-nil prefix) l)
+none_stopped t prefix (c ∷ rest) more next a parts begins ends b l =
+    ends c c rest rest b refl (stands_itself c) (subst (λ (z : List Lexeme). Spells z b) parts l)
 
 stopped_at : (t : List Lexeme) (left : ℕ) → Stopped Spells t left → IsSyntaxAt t (length t - left)
-stopped_at t left s = subst (λ (n : ℕ). IsSyntaxAt t (length t - n)) s.left_is (syntax_at t s.front s.rest (s.next ∷ s.more) s.value s.parts s.begins s.ends (none_stopped t s.front s.rest s.more s.next s.value s.parts s.begins s.ends))
+stopped_at t left s = subst (λ (n : ℕ). IsSyntaxAt t (length t - n)) s.left_is
+    (syntax_at t s.prefix s.rest (s.next ∷ s.more) s.value s.parts s.begins s.ends
+    (none_stopped t s.prefix s.rest s.more s.next s.value s.parts s.begins s.ends))
 
-trailing_at : (t text : List Lexeme) (a : Advert) (c : Lexeme) (after : List Lexeme) → t ≡ text ++ c ∷ after → Spells text a → IsSyntaxAt t (length t - suc (length after))
+trailing_at : (t text : List Lexeme) (a : Advert) (c : Lexeme) (after : List Lexeme) → t ≡ text ++ c ∷ after → Spells text a
+    → IsSyntaxAt t (length t - suc (length after))
 trailing_at t text a c after parts l = syntax_at t text (c ∷ after) [] a parts (subst (λ (z : List Lexeme). Spells z a) (sym (append-nil text)) l)
     (λ x d rest further b is st m. no_trailing text d further a b l m)
     (λ b m. no_trailing text c after a b l (subst (λ (z : List Lexeme). Spells z b) parts m))
 
-last_syntax : (t : List Lexeme) (left : ℕ) (a : Advert) (rest : List Lexeme) → Taken Spells t a rest → if_last a rest ≡ stopped (stops.Syntax left) → IsSyntaxAt t (length t - left)
+last_syntax : (t : List Lexeme) (left : ℕ) (a : Advert) (rest : List Lexeme) → Taken Spells t a rest → if_last a rest
+    ≡ stopped (stops.Syntax left) → IsSyntaxAt t (length t - left)
 last_syntax t left a [] k e = absurd (read_stopped a (stops.Syntax left) e)
-last_syntax t left a (c ∷ after) k e = subst (λ (n : ℕ). IsSyntaxAt t (length t - n)) (left_is (suc (length after)) left (stop_is {A = Advert} (stops.Syntax (suc (length after))) (stops.Syntax left) e)) (trailing_at t k.text a c after k.parts k.spelled)
+last_syntax t left a (c ∷ after) k e =
+    subst (λ (n : ℕ). IsSyntaxAt t (length t - n))
+    (left_is (suc (length after)) left (stop_is {A = Advert} (stops.Syntax (suc (length after))) (stops.Syntax left) e))
+    (trailing_at t k.text a c after k.parts k.spelled)
 
-syntax_by : (t : List Lexeme) (left : ℕ) (r : Result (Advert × List Lexeme) Stop) → Told Spells t r → (r >>= λ a. if_last (a.0) (a.1)) ≡ stopped (stops.Syntax left) → IsSyntaxAt t (length t - left)
+syntax_by : (t : List Lexeme) (left : ℕ) (r : Result (Advert × List Lexeme) Stop) → Told Spells t r → (r >>= λ a. if_last (a.0) (a.1))
+    ≡ stopped (stops.Syntax left) → IsSyntaxAt t (length t - left)
 syntax_by t left (Ok x) k e = last_syntax t left (x.0) (x.1) k e
-syntax_by t left (Err (stops.Syntax n)) s e = subst (λ (n : ℕ). IsSyntaxAt t (length t - n)) (left_is n left (stop_is {A = Advert} (stops.Syntax n) (stops.Syntax left) e)) (stopped_at t n s)
+syntax_by t left (Err (stops.Syntax n)) s e =
+    subst (λ (n : ℕ). IsSyntaxAt t (length t - n)) (left_is n left (stop_is {A = Advert} (stops.Syntax n) (stops.Syntax left) e)) (stopped_at t n s)
 syntax_by t left (Err (stops.Limit w n)) s e = let k = stop_is {A = Advert} (stops.Limit w n) (stops.Syntax left) e in absurd cc
 
 -- where the tokens spell no advert
@@ -99,17 +113,17 @@ syntax_is t left e = syntax_by t left (advert_at t) (advert_exact.tells t).told 
 
 exceeded_at : (t : List Lexeme) (left : ℕ) → Exceeded Spells t left → IsLimitAt t (length t - left)
 exceeded_at t left s =
-    let len : length t ≡ length s.front + suc (length s.after) = ap length s.parts ∙ length-append s.front (s.next ∷ s.after) in
-    let place : length t - left ≡ length s.front = omega (arith, s.left_is) in
-    let fronts : take (length s.front + 1) t ≡ s.front ++ s.next ∷ [] = ap (take (length s.front + 1)) (s.parts ∙ sym (append_assoc s.front (s.next ∷ []) s.after)) ∙ take_at (s.front ++ s.next ∷ []) s.after (length s.front + 1) (length-append s.front (s.next ∷ [])) in
+    let len : length t ≡ length s.prefix + suc (length s.after) = ap length s.parts ∙ length-append s.prefix (s.next ∷ s.after) in
+    let place : length t - left ≡ length s.prefix = omega (arith, s.left_is) in
+    let prefixes : take (length s.prefix + 1) t ≡ s.prefix ++ s.next ∷ [] = ap (take (length s.prefix + 1)) (s.parts ∙ sym (append_assoc s.prefix (s.next ∷ []) s.after)) ∙ take_at (s.prefix ++ s.next ∷ []) s.after (length s.prefix + 1) (length-append s.prefix (s.next ∷ [])) in
     rw place (record {
       within = omega arith;
       begins = record {
-        meant = s.front ++ s.meant ∷ [];
-        stand = rw fronts (stand_and_one s.front s.next s.meant s.stands);
+        meant = s.prefix ++ s.meant ∷ [];
+        stand = rw prefixes (stand_and_one s.prefix s.next s.meant s.stands);
         more = s.more;
         advert = s.value;
-        spelled = rw (append_assoc s.front (s.meant ∷ []) s.more) s.begins;
+        spelled = rw (append_assoc s.prefix (s.meant ∷ []) s.more) s.begins;
       };
     })
 
@@ -120,10 +134,12 @@ last_limit : (a : Advert) (rest : List Lexeme) (w : Limit) (left : ℕ) → if_l
 last_limit a [] w left e = read_stopped a (stops.Limit w left) e
 last_limit a (c ∷ after) w left e = let k = stop_is {A = Advert} (stops.Syntax (suc (length after))) (stops.Limit w left) e in absurd cc
 
-limit_by : (t : List Lexeme) (w : Limit) (left : ℕ) (r : Result (Advert × List Lexeme) Stop) → Told Spells t r → (r >>= λ a. if_last (a.0) (a.1)) ≡ stopped (stops.Limit w left) → IsLimitAt t (length t - left)
+limit_by : (t : List Lexeme) (w : Limit) (left : ℕ) (r : Result (Advert × List Lexeme) Stop) → Told Spells t r
+    → (r >>= λ a. if_last (a.0) (a.1)) ≡ stopped (stops.Limit w left) → IsLimitAt t (length t - left)
 limit_by t w left (Ok x) k e = absurd (last_limit (x.0) (x.1) w left e)
 limit_by t w left (Err (stops.Syntax n)) s e = let k = stop_is {A = Advert} (stops.Syntax n) (stops.Limit w left) e in absurd cc
-limit_by t w left (Err (stops.Limit v n)) s e = subst (λ (n : ℕ). IsLimitAt t (length t - n)) (limit_left n left v w (stop_is {A = Advert} (stops.Limit v n) (stops.Limit w left) e)) (exceeded_at t n s)
+limit_by t w left (Err (stops.Limit v n)) s e =
+    subst (λ (n : ℕ). IsLimitAt t (length t - n)) (limit_left n left v w (stop_is {A = Advert} (stops.Limit v n) (stops.Limit w left) e)) (exceeded_at t n s)
 
 -- where a quantity is exceeded
 pub limit_is : (t : List Lexeme) (w : Limit) (left : ℕ) → advert_of_all t ≡ Err (stops.Limit w left) → IsLimitAt t (length t - left)

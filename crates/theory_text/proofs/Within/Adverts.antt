@@ -55,16 +55,20 @@ head_within ts h =
     within_then Any HeadWithin _ _ (mark_within (a_symbol mark.Colon) us k) (λ c vs y l.
     within_then Any HeadWithin _ _ (mark_within an_entry_kind vs l) (λ e ws z m. (is, m))))
 
-deposit_within : (t : Bool) (party : List ℕ) (ts : List Lexeme) (k : EntryKind) → deposits_in k ≡ 1 → secrets_in k ≡ 0 → IsName party → HaveNames ts → Within (EntryIs k) (deposit_at t party ts)
+deposit_within : (t : Bool) (party : List ℕ) (ts : List Lexeme) (k : EntryKind) → deposits_in k ≡ 1 → secrets_in k ≡ 0 → IsName party
+    → HaveNames ts → Within (EntryIs k) (deposit_at t party ts)
 unfolding deposit_at
 deposit_within t party ts k one none is h =
     within_then (IsAtMost max_money) (EntryIs k) _ _ (number_within max_money ts h) (λ v us small l.
     within_then Any (EntryIs k) _ _ (mark_within (a_symbol mark.At) us l) (λ o vs y m.
     within_then IsName (EntryIs k) _ _ (name_within vs m) (λ x ws so n. (either_deposit t party v x k one none is small so, n))))
   where
-    either_deposit : (t : Bool) (party : List ℕ) (v : ℕ) (x : List ℕ) (k : EntryKind) → deposits_in k ≡ 1 → secrets_in k ≡ 0 → IsName party → IsAtMost max_money v → IsName x → EntryIs k (deposit_of t party v x)
-    either_deposit true party v x k one none is small so = record { readable = and_is _ _ is (and_is _ _ small so); deposits' = rw one refl; secrets' = rw none refl }
-    either_deposit false party v x k one none is small so = record { readable = and_is _ _ is (and_is _ _ small so); deposits' = rw one refl; secrets' = rw none refl }
+    either_deposit : (t : Bool) (party : List ℕ) (v : ℕ) (x : List ℕ) (k : EntryKind) → deposits_in k ≡ 1 → secrets_in k ≡ 0 → IsName party
+        → IsAtMost max_money v → IsName x → EntryIs k (deposit_of t party v x)
+    either_deposit true party v x k one none is small so =
+        record { readable = and_is _ _ is (and_is _ _ small so); deposits' = rw one refl; secrets' = rw none refl }
+    either_deposit false party v x k one none is small so =
+        record { readable = and_is _ _ is (and_is _ _ small so); deposits' = rw one refl; secrets' = rw none refl }
 
 secret_within : (party : List ℕ) (ts : List Lexeme) → IsName party → HaveNames ts → Within (EntryIs secret) (secret_at party ts)
 unfolding secret_at
@@ -90,7 +94,8 @@ room_taken volatile room h = record { deposits' = grind (arith, nat_tests); secr
 room_taken secret room h = record { deposits' = omega arith; secrets' = grind (arith, nat_tests) }
 
 -- where there is no room reading stops
-roomed : {B : Type 0} (Q : B → Type 0) (k : EntryKind) (t : Bool) (left : ℕ) (later : Unit {0} → Reads B) → (t ≡ false → Within Q (later tt)) → Within Q (room_for k t left >>= later)
+roomed : {B : Type 0} (Q : B → Type 0) (k : EntryKind) (t : Bool) (left : ℕ) (later : Unit {0} → Reads B)
+    → (t ≡ false → Within Q (later tt)) → Within Q (room_for k t left >>= later)
 roomed Q k true left later f = tt
 roomed Q k false left later f = f refl
 
@@ -100,7 +105,8 @@ record EntryWithin (room : Room) (r : Pre × Room) : Type 0 where
   secrets' : length (secrets (r.0 ∷ [])) + r.1.1 ≤ room.1
 
 entry_taken : (k : EntryKind) (room : Room) (p : Pre) → Taken k room → EntryIs k p → EntryWithin room (p, room_after k room)
-entry_taken k room p t e = record { readable = e.readable; deposits' = omega (arith, t.deposits', e.deposits'); secrets' = omega (arith, t.secrets', e.secrets') }
+entry_taken k room p t e =
+    record { readable = e.readable; deposits' = omega (arith, t.deposits', e.deposits'); secrets' = omega (arith, t.secrets', e.secrets') }
 
 entry_within : (room : Room) (ts : List Lexeme) → HaveNames ts → Within (EntryWithin room) (entry_at room ts)
 unfolding entry_at
@@ -129,12 +135,21 @@ secrets_more (Volatile party value name) ps = omega arith
 secrets_more (Secret party name) ps = omega arith
 
 last_entry : (room least : Room) (r : Pre × Room) → least.0 ≤ room.0 → least.1 ≤ room.1 → EntryWithin least r → EntriesWithin room (r.0 ∷ [])
-last_entry room least r ge he is = record { some = refl; readable = and_is _ _ is.readable refl; deposits' = omega (arith, is.deposits', ge); secrets' = omega (arith, is.secrets', he) }
+last_entry room least r ge he is =
+    record { some = refl; readable = and_is _ _ is.readable refl; deposits' = omega (arith, is.deposits', ge); secrets' = omega (arith, is.secrets', he) }
 
 more_entries : (room : Room) (r : Pre × Room) (ps : List Pre) → EntryWithin room r → EntriesWithin r.1 ps → EntriesWithin room (r.0 ∷ ps)
-more_entries room r ps is more = record { some = refl; readable = and_is _ _ is.readable more.readable; deposits' = omega (arith, is.deposits', more.deposits', deposits_more r.0 ps); secrets' = omega (arith, is.secrets', more.secrets', secrets_more r.0 ps) }
+more_entries room r ps is more =
+    record {
+      some = refl;
+      readable = and_is _ _ is.readable more.readable;
+      deposits' = omega
+          (arith, is.deposits', more.deposits', deposits_more r.0 ps);
+      secrets' = omega (arith, is.secrets', more.secrets', secrets_more r.0 ps);
+    }
 
-behind_entry : (n : ℕ) (room : Room) (r : Pre × Room) (ts : List Lexeme) (t : Bool) → EntryWithin room r → HaveNames ts → Within (EntriesWithin r.1) (entries_at n r.1 ts)
+behind_entry : (n : ℕ) (room : Room) (r : Pre × Room) (ts : List Lexeme) (t : Bool) → EntryWithin room r → HaveNames ts
+    → Within (EntriesWithin r.1) (entries_at n r.1 ts)
     → Within (EntriesWithin room) (elim t [ true ↦ entries_at n (r.1) ts >>= λ ps. Ok (r.0 ∷ ps.0, ps.1) | false ↦ Ok (r.0 ∷ [], ts) ])
 behind_entry n room r ts true is h more = within_then (EntriesWithin r.1) (EntriesWithin room) _ _ more (λ ps us so k. (more_entries room r ps is so, k))
 behind_entry n room r ts false is h more = (last_entry room room r (omega arith) (omega arith) is, h)
@@ -159,7 +174,8 @@ fee_within ts h = (refl, h)
 abbrev IsReadable : Advert → Type 0
 IsReadable a = is_readable a ≡ true
 
-advert_readable : (ps : List Pre) (fee : ℕ) (c : Contract × ℕ) → EntriesWithin (most_deposits, most_secrets) ps → IsAtMost max_money fee → ChoiceWithin most_depth most_choices most_branches c → IsReadable (advert_of ps fee c.0)
+advert_readable : (ps : List Pre) (fee : ℕ) (c : Contract × ℕ) → EntriesWithin (most_deposits, most_secrets) ps → IsAtMost max_money fee
+    → ChoiceWithin most_depth most_choices most_branches c → IsReadable (advert_of ps fee c.0)
 advert_readable ps fee c e small is =
     let pre : is_readable_pre ps ≡ true = and_is _ _ (and_is _ _ e.some e.readable) (and_is _ _ (le_yes _ _ e.deposits') (le_yes _ _ e.secrets')) in
     let root : is_readable_contract c.0 ≡ true = and_is _ _ (and_is _ _ (count_is c.0 is.some is.few) is.readable) (and_is _ _ (le_yes _ _ is.depth) (le_yes _ _ (omega (arith, is.count)))) in
@@ -169,9 +185,11 @@ advert_within : (ts : List Lexeme) → HaveNames ts → Within IsReadable (adver
 unfolding advert_at
 advert_within ts h =
     within_then Any IsReadable _ _ (mark_within (a_symbol mark.LeftBrace) ts h) (λ b us y k.
-    within_then (EntriesWithin (most_deposits, most_secrets)) IsReadable _ _ (entries_within (most_deposits + most_secrets) (most_deposits, most_secrets) us k) (λ p vs e l.
+    within_then (EntriesWithin (most_deposits, most_secrets)) IsReadable _ _
+    (entries_within (most_deposits + most_secrets) (most_deposits, most_secrets) us k) (λ p vs e l.
     within_then (IsAtMost max_money) IsReadable _ _ (fee_within vs l) (λ f ws small m.
-    within_then (ChoiceWithin most_depth most_choices most_branches) IsReadable _ _ (choice_within (branch_at most_depth) most_depth most_branches ws (branch_within most_depth) m) (λ c xs is n.
+    within_then (ChoiceWithin most_depth most_choices most_branches) IsReadable _ _
+    (choice_within (branch_at most_depth) most_depth most_branches ws (branch_within most_depth) m) (λ c xs is n.
     (advert_readable p f c e small is, n)))))
 
 -- ---- the answer to a text
@@ -197,7 +215,8 @@ answer_readable text tokens (Ok a) h = h
 answer_readable text tokens (Err stop) h = tt
 
 from_readable : (text : List ℕ) (cut : Tokens) → tokens_of text ≡ cut → ReadableOr (answer_from text cut)
-from_readable text (Ok tokens) e = answer_readable text tokens (advert_of_all (lexemes text tokens)) (all_readable (lexemes text tokens) (text_has_names text tokens e))
+from_readable text (Ok tokens) e =
+    answer_readable text tokens (advert_of_all (lexemes text tokens)) (all_readable (lexemes text tokens) (text_has_names text tokens e))
 from_readable text (Err place) e = tt
 
 any_answer : (text : List ℕ) → ReadableOr (read_answer text)

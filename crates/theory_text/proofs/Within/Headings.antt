@@ -43,7 +43,8 @@ reveals_within puts ts are h =
     within_then IsReadableTest HeadingWithin _ _ (condition_within (a.1) us k) (λ p vs r l.
     (record { whole = revealed (is_some_list puts && is_always p) (is_some_list a.0) (n.some refl); puts = are; reveals = n.all; test = r }, l)))
 
-put_reveals_within : (t : Bool) (puts : List (List ℕ)) (ts : List Lexeme) → is_some_list puts ≡ true → list_all is_name puts ≡ true → HaveNames ts → Within HeadingWithin (put_reveals_at t puts ts)
+put_reveals_within : (t : Bool) (puts : List (List ℕ)) (ts : List Lexeme) → is_some_list puts ≡ true → list_all is_name puts ≡ true
+    → HaveNames ts → Within HeadingWithin (put_reveals_at t puts ts)
 unfolding put_reveals_at
 put_reveals_within false puts ts some are h = (record { whole = or_yes _ false (and_is _ _ some refl); puts = are; reveals = refl; test = refl }, h)
 put_reveals_within true puts ts some are h =

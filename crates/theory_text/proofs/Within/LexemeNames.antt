@@ -14,7 +14,7 @@ use Rattle.spec_text.specs.declared.token.Symbol.{Symbol}
 use Rattle.spec_text.specs.declared.lexeme.Lexeme.{Lexeme}
 use Rattle.spec_text.specs.declared.lexeme.Lexeme.TheVariants.{Name as name}
 use Rattle.spec_text.specs.Lexeme.{fits_name, name_or_long, lexeme_of, token_bytes, lexeme_in, lexemes}
-use Rattle.spec_text.specs.Lexis.{keywords, word_in, name_kind, kind_or_name, word_kind, symbols, symbol_in, Front, word_front, number_front, symbol_or_none, symbol_front, begins_greater, front, Tokens, with_token, token_at, Look, inside, blank, start, no_token, front_look, look, is_blank, left_of, from_look, tokens_from, tokens_of}
+use Rattle.spec_text.specs.Lexis.{keywords, word_in, name_kind, kind_or_name, word_kind, symbols, symbol_in, Prefix, word_prefix, number_prefix, symbol_or_none, symbol_prefix, begins_greater, prefix, Tokens, with_token, token_at, Look, inside, blank, start, no_token, prefix_look, look, is_blank, left_of, from_look, tokens_from, tokens_of}
 use Rattle.theory_text.proofs.ListFacts.{and_is, and_right, or_no, not_no, bytes_ne-back}
 use Rattle.theory_text.proofs.Runs.{run_all, run_behind}
 
@@ -69,12 +69,12 @@ any_word bytes None h word = other_word bytes (name_kind bytes) word (not_keywor
 -- ---- the token at the front
 
 -- what the token at the front says
-abbrev FrontHasName : ℕ → List ℕ → Option Front → Type 0
-FrontHasName b bytes None = Unit {0}
-FrontHasName b bytes (Some f) = HasName (lexeme_of f.0 (take (f.1 + 1) (b ∷ bytes)))
+abbrev PrefixHasName : ℕ → List ℕ → Option Prefix → Type 0
+PrefixHasName b bytes None = Unit {0}
+PrefixHasName b bytes (Some f) = HasName (lexeme_of f.0 (take (f.1 + 1) (b ∷ bytes)))
 
-word_case : (b : ℕ) (bytes : List ℕ) → is_letter b ≡ true → FrontHasName b bytes (Some (word_front b bytes))
-unfolding word_front
+word_case : (b : ℕ) (bytes : List ℕ) → is_letter b ≡ true → PrefixHasName b bytes (Some (word_prefix b bytes))
+unfolding word_prefix
 word_case b bytes h =
     let w = b ∷ take_while is_name_byte bytes in
     let said = any_word w (word_in keywords w) refl (and_is _ _ h (run_all is_name_byte bytes)) in
@@ -84,28 +84,29 @@ number_said : (t : Bool) (n : ℕ) (bytes : List ℕ) → HasName (lexeme_of (if
 number_said true n bytes = tt
 number_said false n bytes = tt
 
-number_case : (b : ℕ) (bytes : List ℕ) → FrontHasName b bytes (Some (number_front b bytes))
-unfolding number_front
+number_case : (b : ℕ) (bytes : List ℕ) → PrefixHasName b bytes (Some (number_prefix b bytes))
+unfolding number_prefix
 number_case b bytes = number_said _ _ _
 
-symbol_said : (b : ℕ) (bytes : List ℕ) (o : Option Symbol) → FrontHasName b bytes (symbol_or_none o)
+symbol_said : (b : ℕ) (bytes : List ℕ) (o : Option Symbol) → PrefixHasName b bytes (symbol_or_none o)
 symbol_said b bytes None = tt
 symbol_said b bytes (Some s) = tt
 
-symbol_case : (b : ℕ) (bytes : List ℕ) → FrontHasName b bytes (symbol_front b)
-unfolding symbol_front
+symbol_case : (b : ℕ) (bytes : List ℕ) → PrefixHasName b bytes (symbol_prefix b)
+unfolding symbol_prefix
 symbol_case b bytes = symbol_said b bytes (symbol_in symbols b)
 
-either_front : (b : ℕ) (bytes : List ℕ) (t : Bool) (x y : Option Front) → (t ≡ true → FrontHasName b bytes x) → FrontHasName b bytes y → FrontHasName b bytes (if t then x else y)
-either_front b bytes true x y f g = f refl
-either_front b bytes false x y f g = g
+either_prefix : (b : ℕ) (bytes : List ℕ) (t : Bool) (x y : Option Prefix) → (t ≡ true → PrefixHasName b bytes x) → PrefixHasName b bytes y
+    → PrefixHasName b bytes (if t then x else y)
+either_prefix b bytes true x y f g = f refl
+either_prefix b bytes false x y f g = g
 
-front_has : (b : ℕ) (bytes : List ℕ) → FrontHasName b bytes (front b bytes)
-front_has b bytes =
-    either_front b bytes (is_letter b) _ _ (word_case b bytes)
-    (either_front b bytes (b == 48) _ _ (λ h. tt)
-    (either_front b bytes (is_digit b) _ _ (λ h. number_case b bytes)
-    (either_front b bytes ((b == 45) && begins_greater bytes) _ _ (λ h. tt) (symbol_case b bytes))))
+prefix_has : (b : ℕ) (bytes : List ℕ) → PrefixHasName b bytes (prefix b bytes)
+prefix_has b bytes =
+    either_prefix b bytes (is_letter b) _ _ (word_case b bytes)
+    (either_prefix b bytes (b == 48) _ _ (λ h. tt)
+    (either_prefix b bytes (is_digit b) _ _ (λ h. number_case b bytes)
+    (either_prefix b bytes ((b == 45) && begins_greater bytes) _ _ (λ h. tt) (symbol_case b bytes))))
 
 -- ---- all tokens
 
@@ -113,12 +114,14 @@ abbrev TokensHaveNames : List ℕ → Tokens → Type 0
 TokensHaveNames text (Ok tokens) = HaveNames (lexemes text tokens)
 TokensHaveNames text (Err place) = Unit {0}
 
-token_more : (text : List ℕ) (token : Token) (later : Tokens) → HasName (lexeme_in text token) → TokensHaveNames text later → TokensHaveNames text (with_token token later)
+token_more : (text : List ℕ) (token : Token) (later : Tokens) → HasName (lexeme_in text token) → TokensHaveNames text later
+    → TokensHaveNames text (with_token token later)
 token_more text token (Ok tokens) h t = (h, t)
 token_more text token (Err place) h t = tt
 
 -- the bytes of the token that is at the front from a place on
-pub token_bytes-at : (text : List ℕ) (place : ℕ) (f : Front) (rest : List ℕ) → drop place text ≡ rest → token_bytes text (token_at place f) ≡ take (f.1 + 1) rest
+pub token_bytes-at : (text : List ℕ) (place : ℕ) (f : Prefix) (rest : List ℕ) → drop place text ≡ rest → token_bytes text (token_at place f)
+    ≡ take (f.1 + 1) rest
 token_bytes-at text place f rest h =
     let n : place + f.1 + 1 - place ≡ f.1 + 1 = omega arith in
     ap (λ (k : ℕ). take k (drop place text)) n ∙ ap (take (f.1 + 1)) h
@@ -126,22 +129,23 @@ token_bytes-at text place f rest h =
 abbrev LookHasName : ℕ → List ℕ → Look → Type 0
 LookHasName b bytes (inside left) = Unit {0}
 LookHasName b bytes blank = Unit {0}
-LookHasName b bytes (start f) = FrontHasName b bytes (Some f)
+LookHasName b bytes (start f) = PrefixHasName b bytes (Some f)
 LookHasName b bytes no_token = Unit {0}
 
-front_looks : (b : ℕ) (bytes : List ℕ) (o : Option Front) → FrontHasName b bytes o → LookHasName b bytes (front_look o)
-front_looks b bytes None h = tt
-front_looks b bytes (Some f) h = h
+prefix_looks : (b : ℕ) (bytes : List ℕ) (o : Option Prefix) → PrefixHasName b bytes o → LookHasName b bytes (prefix_look o)
+prefix_looks b bytes None h = tt
+prefix_looks b bytes (Some f) h = h
 
-blank_or : (b : ℕ) (bytes : List ℕ) (t : Bool) → LookHasName b bytes (if t then blank else front_look (front b bytes))
+blank_or : (b : ℕ) (bytes : List ℕ) (t : Bool) → LookHasName b bytes (if t then blank else prefix_look (prefix b bytes))
 blank_or b bytes true = tt
-blank_or b bytes false = front_looks b bytes (front b bytes) (front_has b bytes)
+blank_or b bytes false = prefix_looks b bytes (prefix b bytes) (prefix_has b bytes)
 
 look_has : (left b : ℕ) (bytes : List ℕ) → LookHasName b bytes (look left b bytes)
 look_has zero b bytes = blank_or b bytes (is_blank b)
 look_has (suc left) b bytes = tt
 
-look_more : (text : List ℕ) (place b : ℕ) (bytes : List ℕ) (l : Look) (later : Tokens) → drop place text ≡ b ∷ bytes → LookHasName b bytes l → TokensHaveNames text later → TokensHaveNames text (from_look place l later)
+look_more : (text : List ℕ) (place b : ℕ) (bytes : List ℕ) (l : Look) (later : Tokens) → drop place text ≡ b ∷ bytes → LookHasName b bytes l
+    → TokensHaveNames text later → TokensHaveNames text (from_look place l later)
 look_more text place b bytes (inside left) later e h t = t
 look_more text place b bytes blank later e h t = t
 look_more text place b bytes (start f) later e h t =

@@ -20,7 +20,8 @@ Within P (Ok r) = P r.0 × HaveNames r.1
 Within P (Err stop) = Unit {0}
 
 -- one reader after another
-pub within_then : {A B : Type 0} (P : A → Type 0) (Q : B → Type 0) (m : Reads A) (f : A × List Lexeme → Reads B) → Within P m → ((x : A) (ts : List Lexeme) → P x → HaveNames ts → Within Q (f (x, ts))) → Within Q (m >>= f)
+pub within_then : {A B : Type 0} (P : A → Type 0) (Q : B → Type 0) (m : Reads A) (f : A × List Lexeme → Reads B) → Within P m
+    → ((x : A) (ts : List Lexeme) → P x → HaveNames ts → Within Q (f (x, ts))) → Within Q (m >>= f)
 within_then P Q (Ok r) f h g = g r.0 r.1 h.0 h.1
 within_then P Q (Err stop) f h g = tt
 
@@ -41,7 +42,8 @@ taken_within P (taken x) ts h t = (h, t)
 taken_within P wrong ts h t = tt
 taken_within P (above w) ts h t = tt
 
-pub token_within : {A : Type 0} (P : A → Type 0) (see : Lexeme → Seen A) (ts : List Lexeme) → ((t : Lexeme) → HasName t → SeenWithin P (see t)) → HaveNames ts → Within P (token_by see ts)
+pub token_within : {A : Type 0} (P : A → Type 0) (see : Lexeme → Seen A) (ts : List Lexeme)
+    → ((t : Lexeme) → HasName t → SeenWithin P (see t)) → HaveNames ts → Within P (token_by see ts)
 token_within P see [] f h = tt
 token_within P see (t ∷ ts) f h = taken_within P (see t) ts (f t h.0) h.1
 
@@ -92,7 +94,8 @@ ended : {E : Type 0} (ends : Lexeme → Seen E) (ts : List Lexeme) (o : Option E
 ended ends ts None h t = within_weak (AreNames true) (AreNames false) _ (λ x n. record { all = n.all; some = λ no'. absurd cc }) t
 ended ends ts (Some e) h t = (record { all = refl; some = λ n. absurd cc }, h)
 
-pub names_within : {E : Type 0} (ends : Lexeme → Seen E) (awaited : Bool) (ts : List Lexeme) → HaveNames ts → Within (AreNames awaited) (names_from ends awaited ts)
+pub names_within : {E : Type 0} (ends : Lexeme → Seen E) (awaited : Bool) (ts : List Lexeme) → HaveNames ts
+    → Within (AreNames awaited) (names_from ends awaited ts)
 unfolding names_from
 names_within ends awaited [] h = tt
 names_within ends true (t ∷ ts) h =
@@ -100,4 +103,5 @@ names_within ends true (t ∷ ts) h =
     within_then (AreNames false) (AreNames true) _ _ (names_within ends false ts h.1) (λ r vs m l.
     (record { all = and_is _ _ n m.all; some = λ yes. refl }, l)))
 names_within ends false (t ∷ ts) h =
-    within_then Any (AreNames false) _ _ (taken_within Any (comma_or ends t) ts (any_seen (comma_or ends t)) h.1) (λ o us n k. ended ends ts o h.1 (names_within ends true ts h.1))
+    within_then Any (AreNames false) _ _ (taken_within Any (comma_or ends t) ts (any_seen (comma_or ends t)) h.1)
+    (λ o us n k. ended ends ts o h.1 (names_within ends true ts h.1))

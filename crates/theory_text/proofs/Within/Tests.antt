@@ -21,7 +21,8 @@ pub record FormulaWithin (d : ℕ) (e : Expr) : Type 0 where
 
 constant_within : (d : ℕ) (ts : List Lexeme) → HaveNames ts → Within (FormulaWithin (suc d)) (constant_at ts)
 unfolding constant_at
-constant_within d ts h = within_then (IsAtMost greatest_constant) (FormulaWithin (suc d)) _ _ (number_within greatest_constant ts h) (λ n us small k. (record { depth = omega arith; readable = small }, k))
+constant_within d ts h = within_then (IsAtMost greatest_constant) (FormulaWithin (suc d)) _ _ (number_within greatest_constant ts h)
+    (λ n us small k. (record { depth = omega arith; readable = small }, k))
 
 length_within : (d : ℕ) (ts : List Lexeme) → HaveNames ts → Within (FormulaWithin (suc d)) (length_at ts)
 unfolding length_at

@@ -41,7 +41,8 @@ key_before [] ys k h = cc
 key_before (Code c ∷ xs) ys k h = key_before xs ys k h
 key_before (Push b ∷ xs) ys k h = by_test (length b == 33) h (key_before xs ys k)
   where
-    by_test : (t : Bool) → (if t then Some b else first_key xs) ≡ Some k → (first_key xs ≡ Some k → first_key (xs ++ ys) ≡ Some k) → (if t then Some b else first_key (xs ++ ys)) ≡ Some k
+    by_test : (t : Bool) → (if t then Some b else first_key xs) ≡ Some k → (first_key xs ≡ Some k → first_key (xs ++ ys) ≡ Some k)
+        → (if t then Some b else first_key (xs ++ ys)) ≡ Some k
     by_test true e ih = e
     by_test false e ih = ih e
 
@@ -55,7 +56,8 @@ unfolding signed_bytes
 bytes_few zero n negative = omega arith
 bytes_few (suc k) n negative = by_test (nat_lt n 128) (bytes_few k (n / 256) negative)
   where
-    by_test : (b : Bool) → length (signed_bytes k (n / 256) negative) ≤ k → length (if b then (n + (if negative then 128 else 0)) ∷ [] else (n % 256) ∷ signed_bytes k (n / 256) negative) ≤ suc k
+    by_test : (b : Bool) → length (signed_bytes k (n / 256) negative) ≤ k
+        → length (if b then (n + (if negative then 128 else 0)) ∷ [] else (n % 256) ∷ signed_bytes k (n / 256) negative) ≤ suc k
     by_test true h = omega arith
     by_test false h = omega (arith, h)
 
@@ -86,16 +88,27 @@ short (negsuc n) = by_test (n == 0)
 
 formula_none : (names : List (List ℕ)) (d : ℕ) (e : Expr) → NoKey (formula_ops names d e)
 formula_none names d (constant n) = short (pos n)
-formula_none names d (length_of a) = no_key_append (push_number (pos (d + place_in names a)) ∷ []) (Code 0x79 ∷ (Code 0x60 ∷ (Code 0x94 ∷ []))) (short (pos (d + place_in names a))) tt
-formula_none names d (plus e f) = no_key_append (formula_ops names d e) (formula_ops names (d + 1) f ++ Code 0x93 ∷ []) (formula_none names d e) (no_key_append (formula_ops names (d + 1) f) (Code 0x93 ∷ []) (formula_none names (d + 1) f) tt)
-formula_none names d (minus e f) = no_key_append (formula_ops names d e) (formula_ops names (d + 1) f ++ Code 0x94 ∷ []) (formula_none names d e) (no_key_append (formula_ops names (d + 1) f) (Code 0x94 ∷ []) (formula_none names (d + 1) f) tt)
+formula_none names d (length_of a) =
+    no_key_append (push_number (pos (d + place_in names a)) ∷ []) (Code 0x79 ∷ (Code 0x60 ∷ (Code 0x94 ∷ []))) (short (pos (d + place_in names a))) tt
+formula_none names d (plus e f) =
+    no_key_append (formula_ops names d e) (formula_ops names (d + 1) f ++ Code 0x93 ∷ []) (formula_none names d e)
+    (no_key_append (formula_ops names (d + 1) f) (Code 0x93 ∷ []) (formula_none names (d + 1) f) tt)
+formula_none names d (minus e f) =
+    no_key_append (formula_ops names d e) (formula_ops names (d + 1) f ++ Code 0x94 ∷ []) (formula_none names d e)
+    (no_key_append (formula_ops names (d + 1) f) (Code 0x94 ∷ []) (formula_none names (d + 1) f) tt)
 
 test_none : (names : List (List ℕ)) (d : ℕ) (p : Pred) → NoKey (test_ops names d p)
 test_none names d always = tt
 test_none names d (negation p) = no_key_append (test_ops names d p) (Code 0x91 ∷ []) (test_none names d p) tt
-test_none names d (both p q) = no_key_append (test_ops names d p) (test_ops names (d + 1) q ++ Code 0x9a ∷ []) (test_none names d p) (no_key_append (test_ops names (d + 1) q) (Code 0x9a ∷ []) (test_none names (d + 1) q) tt)
-test_none names d (equal e f) = no_key_append (formula_ops names d e) (formula_ops names (d + 1) f ++ Code 0x9c ∷ []) (formula_none names d e) (no_key_append (formula_ops names (d + 1) f) (Code 0x9c ∷ []) (formula_none names (d + 1) f) tt)
-test_none names d (less e f) = no_key_append (formula_ops names d e) (formula_ops names (d + 1) f ++ Code 0x9f ∷ []) (formula_none names d e) (no_key_append (formula_ops names (d + 1) f) (Code 0x9f ∷ []) (formula_none names (d + 1) f) tt)
+test_none names d (both p q) =
+    no_key_append (test_ops names d p) (test_ops names (d + 1) q ++ Code 0x9a ∷ []) (test_none names d p)
+    (no_key_append (test_ops names (d + 1) q) (Code 0x9a ∷ []) (test_none names (d + 1) q) tt)
+test_none names d (equal e f) =
+    no_key_append (formula_ops names d e) (formula_ops names (d + 1) f ++ Code 0x9c ∷ []) (formula_none names d e)
+    (no_key_append (formula_ops names (d + 1) f) (Code 0x9c ∷ []) (formula_none names (d + 1) f) tt)
+test_none names d (less e f) =
+    no_key_append (formula_ops names d e) (formula_ops names (d + 1) f ++ Code 0x9f ∷ []) (formula_none names d e)
+    (no_key_append (formula_ops names (d + 1) f) (Code 0x9f ∷ []) (formula_none names (d + 1) f) tt)
 
 -- digests have 32 bytes
 abbrev AllDigests : List (List ℕ) → Type 0
@@ -113,15 +126,21 @@ secrets_none names [] t h = tt
 secrets_none names (d ∷ ds) t h =
     let n = length (d ∷ ds) in
     no_key_append (reveals_ops (d ∷ ds)) (replicate n (Code 0x6c) ++ (test_ops names 0 t ++ Code 0x69 ∷ replicate n (Code 0x75))) (reveals_none (d ∷ ds) h)
-    (no_key_append (replicate n (Code 0x6c)) (test_ops names 0 t ++ Code 0x69 ∷ replicate n (Code 0x75)) (no_key_codes n 0x6c) (no_key_append (test_ops names 0 t) (Code 0x69 ∷ replicate n (Code 0x75)) (test_none names 0 t) (no_key_codes n 0x75)))
+    (no_key_append (replicate n (Code 0x6c)) (test_ops names 0 t ++ Code 0x69 ∷ replicate n (Code 0x75)) (no_key_codes n 0x6c)
+    (no_key_append (test_ops names 0 t) (Code 0x69 ∷ replicate n (Code 0x75)) (test_none names 0 t) (no_key_codes n 0x75)))
 
 signed_first : (key : List ℕ) (keys : List (List ℕ)) → length key ≡ 33 → first_key (signed_ops (key ∷ keys)) ≡ Some key
 signed_first key [] h = rw (eq-eqb (length key) 33 h) refl
 signed_first key (next ∷ keys) h = rw (eq-eqb (length key) 33 h) refl
 
-branch_first : (d : Demands) (key : List ℕ) (keys : List (List ℕ)) → d.keys ≡ key ∷ keys → length key ≡ 33 → AllDigests d.digests → first_key (branch_ops d) ≡ Some key
-branch_first d key keys e l h = key_behind (secrets_ops d.names d.digests d.test) (signed_ops d.keys) (secrets_none d.names d.digests d.test h) ∙ ap (λ ks. first_key (signed_ops ks)) e ∙ signed_first key keys l
+branch_first : (d : Demands) (key : List ℕ) (keys : List (List ℕ)) → d.keys ≡ key ∷ keys → length key ≡ 33 → AllDigests d.digests
+    → first_key (branch_ops d) ≡ Some key
+branch_first d key keys e l h =
+    key_behind (secrets_ops d.names d.digests d.test) (signed_ops d.keys) (secrets_none d.names d.digests d.test h)
+    ∙ ap (λ ks. first_key (signed_ops ks)) e ∙ signed_first key keys l
 
-pub output_first : (d : Demands) (ds : List Demands) (key : List ℕ) (keys : List (List ℕ)) → d.keys ≡ key ∷ keys → length key ≡ 33 → AllDigests d.digests → first_key (output_ops (d ∷ ds)) ≡ Some key
+pub output_first : (d : Demands) (ds : List Demands) (key : List ℕ) (keys : List (List ℕ)) → d.keys ≡ key ∷ keys → length key ≡ 33
+    → AllDigests d.digests → first_key (output_ops (d ∷ ds)) ≡ Some key
 output_first d [] key keys e l h = branch_first d key keys e l h
-output_first d (f ∷ ds) key keys e l h = key_before (branch_ops d) (Code 0x67 ∷ (choice_ops (map branch_ops (f ∷ ds)) ++ Code 0x68 ∷ [])) key (branch_first d key keys e l h)
+output_first d (f ∷ ds) key keys e l h =
+    key_before (branch_ops d) (Code 0x67 ∷ (choice_ops (map branch_ops (f ∷ ds)) ++ Code 0x68 ∷ [])) key (branch_first d key keys e l h)

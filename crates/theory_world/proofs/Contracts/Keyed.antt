@@ -22,7 +22,7 @@ use Rattle.theory_bitcoin.proofs.Labels.{one_label}
 use Rattle.theory_script.proofs.Scripts.Demanded.{IsWell, AllWell}
 use Rattle.theory_script.proofs.Scripts.Opened.{is_checked, cost_is}
 use Rattle.theory_script.proofs.Encoding.{encode_read}
-use Rattle.theory_world.specs.KeptApart.{NoClash}
+use Rattle.theory_world.specs.KeptApart.{NoCollision}
 use Rattle.theory_world.proofs.Hashed.{among_head}
 use Rattle.theory_world.proofs.Contracts.FirstKey.{first_key, output_first}
 use Rattle.theory_world.proofs.Book.{key-apart}
@@ -43,12 +43,16 @@ keys_same (after height body) keys hashes = refl
 keys_same (withdraw party) keys hashes = refl
 keys_same (split parts) keys hashes = refl
 
-pub script_key : (hash : List ℕ → List ℕ) (s : Instance) (q : List PathStep) (choice : Contract) → IsHash hash → IsCompiled s q choice → (b : term.Guarded) → slice_get (branches choice) 0 ≡ Some b → ScriptKey hash s q (position_script hash s q choice)
-script_key hash s q choice size comp b there = by_branches (branches choice) refl there (is_checked hash s q choice size comp).well (cost_is hash s q choice size comp).spells
+pub script_key : (hash : List ℕ → List ℕ) (s : Instance) (q : List PathStep) (choice : Contract) → IsHash hash → IsCompiled s q choice
+    → (b : term.Guarded) → slice_get (branches choice) 0 ≡ Some b → ScriptKey hash s q (position_script hash s q choice)
+script_key hash s q choice size comp b there =
+    by_branches (branches choice) refl there (is_checked hash s q choice size comp).well (cost_is hash s q choice size comp).spells
   where
     by_people : (ps : List (List ℕ)) → people s ≡ ps → (c : term.Guarded) (bs : List term.Guarded)
         → IsWell (demands_of (core c) (map (λ party. key_of hash (branch_label s.contract (branch_path q 0) party)) ps) s.hashes)
-        → script_ops (position_script hash s q choice) ≡ Some (output_ops (demands_of (core c) (map (λ party. key_of hash (branch_label s.contract (branch_path q 0) party)) ps) s.hashes ∷ demands_from (λ i. branch_keys hash s (branch_path q i)) s.hashes 1 bs))
+        → script_ops (position_script hash s q choice)
+        ≡ Some (output_ops (demands_of (core c) (map (λ party. key_of hash (branch_label s.contract (branch_path q 0) party)) ps)
+        s.hashes ∷ demands_from (λ i. branch_keys hash s (branch_path q i)) s.hashes 1 bs))
         → ScriptKey hash s q (position_script hash s q choice)
     by_people [] e c bs w sp = absurd (let k = ap length (keys_same (core c) [] s.hashes) in let l = w.some_key in omega (arith, k, l))
     by_people (p ∷ ps) e c bs w sp =
@@ -60,12 +64,15 @@ script_key hash s q choice size comp b there = by_branches (branches choice) ref
           takes_part = subst (λ xs. is_among p xs ≡ true) (sym e) (among_head p ps);
           ops = output_ops (demands_of (core c) (key ∷ rest) s.hashes ∷ demands_from (λ i. branch_keys hash s (branch_path q i)) s.hashes 1 bs);
           spells = sp;
-          first = output_first (demands_of (core c) (key ∷ rest) s.hashes) (demands_from (λ i. branch_keys hash s (branch_path q i)) s.hashes 1 bs) key rest (keys_same (core c) (key ∷ rest) s.hashes) len w.digest_sizes;
+          first = output_first (demands_of (core c) (key ∷ rest) s.hashes)
+              (demands_from (λ i. branch_keys hash s (branch_path q i)) s.hashes 1 bs) key rest (keys_same (core c) (key ∷ rest) s.hashes) len w.digest_sizes;
           branch = c;
         }
 
-    by_branches : (xs : List term.Guarded) → branches choice ≡ xs → slice_get xs 0 ≡ Some b → AllWell (demands_from (λ i. branch_keys hash s (branch_path q i)) s.hashes 0 xs)
-        → script_ops (position_script hash s q choice) ≡ Some (output_ops (demands_from (λ i. branch_keys hash s (branch_path q i)) s.hashes 0 xs)) → ScriptKey hash s q (position_script hash s q choice)
+    by_branches : (xs : List term.Guarded) → branches choice ≡ xs → slice_get xs 0 ≡ Some b
+        → AllWell (demands_from (λ i. branch_keys hash s (branch_path q i)) s.hashes 0 xs)
+        → script_ops (position_script hash s q choice)
+        ≡ Some (output_ops (demands_from (λ i. branch_keys hash s (branch_path q i)) s.hashes 0 xs)) → ScriptKey hash s q (position_script hash s q choice)
     by_branches [] e h w sp = cc
     by_branches (c ∷ bs) e h w sp = by_people (people s) refl c bs w.0 sp
 
@@ -73,7 +80,8 @@ deposit_written : (key : List ℕ) → length key ≡ 33 → encode (Push key �
 deposit_written key h = rw h refl
 
 -- the first key of a deposit's script
-pub deposit_first : (key : List ℕ) → length key ≡ 33 → (script_ops (deposit_script key) ≡ Some (Push key ∷ (Code 172 ∷ []))) × (first_key (Push key ∷ (Code 172 ∷ [])) ≡ Some key)
+pub deposit_first : (key : List ℕ) → length key ≡ 33 → (script_ops (deposit_script key) ≡ Some (Push key ∷ (Code 172 ∷ [])))
+    × (first_key (Push key ∷ (Code 172 ∷ [])) ≡ Some key)
 deposit_first key h = (
   subst (λ x. script_ops x ≡ Some (Push key ∷ (Code 172 ∷ []))) (deposit_written key h) (encode_read (Push key ∷ (Code 172 ∷ [])) (rw h refl)),
   rw (eq-eqb (length key) 33 h) refl,
@@ -82,8 +90,9 @@ deposit_first key h = (
 same_some : {A : Type 0} (x y : A) → (let o : Option A = Some x in o) ≡ Some y → x ≡ y
 same_some x y h = cc
 
-module _ (hash : List ℕ → List ℕ) (size : IsHash hash) (hs : List (List ℕ)) (clear : NoClash hash hs) where
-  labels_same : (l m : Label) → IsLabel l → IsLabel m → is_among (label_text l) hs ≡ true → is_among (label_text m) hs ≡ true → key_of hash l ≡ key_of hash m → l ≡ m
+module _ (hash : List ℕ → List ℕ) (size : IsHash hash) (hs : List (List ℕ)) (clear : NoCollision hash hs) where
+  labels_same : (l m : Label) → IsLabel l → IsLabel m → is_among (label_text l) hs ≡ true → is_among (label_text m) hs ≡ true
+      → key_of hash l ≡ key_of hash m → l ≡ m
   labels_same l m il im hl hm e = one_label l m il im (key-apart hash hs l m clear hl hm e)
 
   abbrev contract_in : Label → ℕ
@@ -101,7 +110,8 @@ module _ (hash : List ℕ → List ℕ) (size : IsHash hash) (hs : List (List �
   -- two positions with one script are one
   pub one_position : (s t : Instance) (q r : List PathStep) (script : List ℕ) (a : ScriptKey hash s q script) (b : ScriptKey hash t r script)
       → IsLabel (branch_label s.contract (q ++ To 0 ∷ []) a.person) → IsLabel (branch_label t.contract (r ++ To 0 ∷ []) b.person)
-      → is_among (label_text (branch_label s.contract (q ++ To 0 ∷ []) a.person)) hs ≡ true → is_among (label_text (branch_label t.contract (r ++ To 0 ∷ []) b.person)) hs ≡ true
+      → is_among (label_text (branch_label s.contract (q ++ To 0 ∷ []) a.person)) hs ≡ true
+      → is_among (label_text (branch_label t.contract (r ++ To 0 ∷ []) b.person)) hs ≡ true
       → (s.contract ≡ t.contract) × (q ≡ r)
   one_position s t q r script a b ia ib ha hb =
       let e : a.ops ≡ b.ops = same_some a.ops b.ops (sym a.spells ∙ b.spells) in
@@ -110,7 +120,8 @@ module _ (hash : List ℕ → List ℕ) (size : IsHash hash) (hs : List (List �
       (ap contract_in l, append_cancel_right q r (To 0 ∷ []) (ap path_in l))
 
   -- a position's script is no deposit's
-  pub no_deposit : (s : Instance) (q : List PathStep) (script party : List ℕ) (a : ScriptKey hash s q script) → IsLabel (branch_label s.contract (q ++ To 0 ∷ []) a.person)
+  pub no_deposit : (s : Instance) (q : List PathStep) (script party : List ℕ) (a : ScriptKey hash s q script)
+      → IsLabel (branch_label s.contract (q ++ To 0 ∷ []) a.person)
       → is_among (label_text (branch_label s.contract (q ++ To 0 ∷ []) a.person)) hs ≡ true → is_among (label_text (labels.Deposit party)) hs ≡ true
       → script ≡ deposit_script (key_of hash (labels.Deposit party)) → ⊥
   no_deposit s q script party a ia ha hd e =

@@ -30,7 +30,9 @@ module _ (hash : List ℕ → List ℕ) (s : Instance) where
     pub is_branch : IsBranch path from_here index branch
     pub number : ℕ
     pub outpoint : here.output.outpoint ≡ output_outpoint hash (branch_unsigned hash s from_here index branch) number
-    pub shape : ((puts reveals : List (List ℕ)) × (test : term.Pred) × (core branch ≡ put_reveal puts reveals test choice) × (number ≡ 0) × (q ≡ path)) ⊎ ((ps : Parts) × (value : ℕ) × (core branch ≡ split ps) × (slice_get (parts_list ps) number ≡ Some (value, choice)) × (q ≡ path ++ Into number ∷ []))
+    pub shape : ((puts reveals : List (List ℕ)) × (test : term.Pred) × (core branch ≡ put_reveal puts reveals test choice) × (number ≡ 0)
+        × (q ≡ path)) ⊎ ((ps : Parts) × (value : ℕ) × (core branch ≡ split ps) × (slice_get (parts_list ps) number ≡ Some (value, choice))
+        × (q ≡ path ++ Into number ∷ []))
 
   pub data MadeBy (q : List PathStep) (here : Standing) (choice : Contract) : Type 0 where
     by_initial : q ≡ [] → here ≡ root_standing hash s → MadeBy q here choice
@@ -41,28 +43,44 @@ module _ (hash : List ℕ → List ℕ) (s : Instance) where
   Known (by_path.at_position here choice) q = MadeBy q here choice
   Known (by_path.at_branch here i b) path = IsBranch path here i b
 
-  branch_known : (here : Standing) (choice : Contract) (i : ℕ) (st : PathEnd) (q : List PathStep) → position_at hash s q ≡ Some (here, choice) → branch_end here choice i ≡ Some st → Known st (q ++ To i ∷ [])
+  branch_known : (here : Standing) (choice : Contract) (i : ℕ) (st : PathEnd) (q : List PathStep) → position_at hash s q
+      ≡ Some (here, choice) → branch_end here choice i ≡ Some st → Known st (q ++ To i ∷ [])
   branch_known here choice i st q h e = by_slot (slice_get (branches choice) i) refl e
     where
       by_slot : (o : Option term.Guarded) → slice_get (branches choice) i ≡ o → option_map (by_path.at_branch here i) o ≡ Some st → Known st (q ++ To i ∷ [])
       by_slot None f x = cc
       by_slot (Some b) f x = let z : by_path.at_branch here i b ≡ st = cc in subst (λ y. Known y (q ++ To i ∷ [])) z (record { position = q; choice = choice; stands = h; there = f; path_is = refl })
 
-  continued_known : (here : Standing) (i : ℕ) (b c : term.Guarded) (p : Standing × Contract) (path : List PathStep) → core b ≡ c → IsBranch path here i b → continued_end hash s here i b c ≡ Some p → MadeBy path p.0 p.1
+  continued_known : (here : Standing) (i : ℕ) (b c : term.Guarded) (p : Standing × Contract) (path : List PathStep) → core b ≡ c
+      → IsBranch path here i b → continued_end hash s here i b c ≡ Some p → MadeBy path p.0 p.1
   continued_known here i b (put_reveal puts reveals test next) p path e k h =
       let z : (let q : Standing × Contract = (continued hash s (branch_path here.position i) (branch_unsigned hash s here i b) (continued_value s here.output.value puts) next, next) in q) ≡ p = cc in
-      subst (λ (q : Standing × Contract). MadeBy path q.0 q.1) z (by_branch (record { from_here = here; index = i; branch = b; path = path; is_branch = k; number = 0; outpoint = refl; shape = inl (puts, reveals, test, e, refl, refl) }))
+      subst (λ (q : Standing × Contract). MadeBy path q.0 q.1) z
+      (by_branch (record {
+        from_here = here;
+        index = i;
+        branch = b;
+        path = path;
+        is_branch = k;
+        number = 0;
+        outpoint = refl;
+        shape = inl
+            (puts, reveals, test, e, refl, refl);
+      }))
   continued_known here i b (withdraw party) p path e k h = cc
   continued_known here i b (split ps) p path e k h = cc
   continued_known here i b (auth party body) p path e k h = cc
   continued_known here i b (after height body) p path e k h = cc
 
-  part_known : (here : Standing) (i j : ℕ) (b c : term.Guarded) (st : PathEnd) (path : List PathStep) → core b ≡ c → IsBranch path here i b → part_end hash s here i b j c ≡ Some st → Known st (path ++ Into j ∷ [])
+  part_known : (here : Standing) (i j : ℕ) (b c : term.Guarded) (st : PathEnd) (path : List PathStep) → core b ≡ c → IsBranch path here i b
+      → part_end hash s here i b j c ≡ Some st → Known st (path ++ Into j ∷ [])
   part_known here i j b (put_reveal puts reveals test next) st path e k h = cc
   part_known here i j b (withdraw party) st path e k h = cc
   part_known here i j b (split ps) st path e k h = by_slot (slice_get (parts_list ps) j) refl h
     where
-      by_slot : (o : Option (ℕ × Contract)) → slice_get (parts_list ps) j ≡ o → option_map (λ (p : ℕ × Contract). by_path.at_position (part_standing hash s (branch_path here.position i) (branch_unsigned hash s here i b) j p.0 p.1) p.1) o ≡ Some st → Known st (path ++ Into j ∷ [])
+      by_slot : (o : Option (ℕ × Contract)) → slice_get (parts_list ps) j ≡ o
+          → option_map (λ (p : ℕ × Contract). by_path.at_position
+          (part_standing hash s (branch_path here.position i) (branch_unsigned hash s here i b) j p.0 p.1) p.1) o ≡ Some st → Known st (path ++ Into j ∷ [])
       by_slot None f x = cc
       by_slot (Some p) f x =
           let z : by_path.at_position (part_standing hash s (branch_path here.position i) (branch_unsigned hash s here i b) j p.0 p.1) p.1 ≡ st = cc in
@@ -71,26 +89,35 @@ module _ (hash : List ℕ → List ℕ) (s : Instance) where
   part_known here i j b (after height body) st path e k h = cc
 
   -- the position at a stand of this path
-  at_stand : (st : PathEnd) (path : List PathStep) (here : Standing) (choice : Contract) → end_at hash s path ≡ Some st → as_position hash s st ≡ Some (here, choice) → position_at hash s path ≡ Some (here, choice)
+  at_stand : (st : PathEnd) (path : List PathStep) (here : Standing) (choice : Contract) → end_at hash s path ≡ Some st
+      → as_position hash s st ≡ Some (here, choice) → position_at hash s path ≡ Some (here, choice)
   at_stand st path here choice h e = ap (option_and_then (as_position hash s)) h ∙ e
 
-  next_known : (step : PathStep) (st next : PathEnd) (path : List PathStep) → end_at hash s path ≡ Some st → Known st path → next_end hash s step st ≡ Some next → Known next (path ++ step ∷ [])
-  next_known (To i) (by_path.at_position here choice) next path h k e = branch_known here choice i next path (at_stand (by_path.at_position here choice) path here choice h refl) e
+  next_known : (step : PathStep) (st next : PathEnd) (path : List PathStep) → end_at hash s path ≡ Some st → Known st path
+      → next_end hash s step st ≡ Some next → Known next (path ++ step ∷ [])
+  next_known (To i) (by_path.at_position here choice) next path h k e =
+      branch_known here choice i next path (at_stand (by_path.at_position here choice) path here choice h refl) e
   next_known (Into j) (by_path.at_position here choice) next path h k e = cc
   next_known (To j) (by_path.at_branch here i b) next path h k e = by_continued (continued_end hash s here i b (core b)) refl e
     where
-      by_continued : (o : Option (Standing × Contract)) → continued_end hash s here i b (core b) ≡ o → option_and_then (λ (p : Standing × Contract). branch_end p.0 p.1 j) o ≡ Some next → Known next (path ++ To j ∷ [])
+      by_continued : (o : Option (Standing × Contract)) → continued_end hash s here i b (core b) ≡ o
+          → option_and_then (λ (p : Standing × Contract). branch_end p.0 p.1 j) o ≡ Some next → Known next (path ++ To j ∷ [])
       by_continued None f x = cc
       by_continued (Some p) f x = branch_known p.0 p.1 j next path (at_stand (by_path.at_branch here i b) path p.0 p.1 h f) x
   next_known (Into j) (by_path.at_branch here i b) next path h k e = part_known here i j b (core b) next path refl k e
 
-  from_known : (rest : List PathStep) (st end : PathEnd) (front : List PathStep) → end_at hash s front ≡ Some st → Known st front → end_from hash s st rest ≡ Some end → Known end (front ++ rest)
-  from_known [] st end front h k e = let z : st ≡ end = cc in subst (λ y. Known y (front ++ [])) z (subst (Known st) (sym (append-nil front)) k)
-  from_known (step ∷ rest) st end front h k e = by_next (next_end hash s step st) refl e
-      (λ next f x. subst (Known end) (append_assoc front (step ∷ []) rest) (from_known rest next end (front ++ step ∷ []) (end_from-step hash s (by_path.at_position (root_standing hash s) s.advert.root) front step ∙ ap (option_and_then (next_end hash s step)) h ∙ f) (next_known step st next front h k f) x))
+  from_known : (rest : List PathStep) (st end : PathEnd) (prefix : List PathStep) → end_at hash s prefix ≡ Some st → Known st prefix
+      → end_from hash s st rest ≡ Some end → Known end (prefix ++ rest)
+  from_known [] st end prefix h k e = let z : st ≡ end = cc in subst (λ y. Known y (prefix ++ [])) z (subst (Known st) (sym (append-nil prefix)) k)
+  from_known (step ∷ rest) st end prefix h k e = by_next (next_end hash s step st) refl e
+      (λ next f x. subst (Known end) (append_assoc prefix (step ∷ []) rest)
+      (from_known rest next end (prefix ++ step ∷ [])
+      (end_from-step hash s (by_path.at_position (root_standing hash s) s.advert.root) prefix step
+      ∙ ap (option_and_then (next_end hash s step)) h ∙ f) (next_known step st next prefix h k f) x))
     where
       by_next : (o : Option PathEnd) → next_end hash s step st ≡ o → option_and_then (λ (next : PathEnd). end_from hash s next rest) o ≡ Some end
-          → ((next : PathEnd) → next_end hash s step st ≡ Some next → end_from hash s next rest ≡ Some end → Known end (front ++ step ∷ rest)) → Known end (front ++ step ∷ rest)
+          → ((next : PathEnd) → next_end hash s step st ≡ Some next → end_from hash s next rest ≡ Some end
+          → Known end (prefix ++ step ∷ rest)) → Known end (prefix ++ step ∷ rest)
       by_next None f x go = cc
       by_next (Some next) f x go = go next f x
 

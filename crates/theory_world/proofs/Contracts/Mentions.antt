@@ -65,24 +65,28 @@ core_mentions (put_reveal puts reveals test next) a h = h
 core_mentions (withdraw party) a h = h
 core_mentions (split parts) a h = h
 
-branch_mentions : (c : Contract) (i : ℕ) (b : term.Guarded) (a : List ℕ) → slice_get (branches c) i ≡ Some b → is_among a (mentions b) ≡ true → is_among a (choice_mentions c) ≡ true
+branch_mentions : (c : Contract) (i : ℕ) (b : term.Guarded) (a : List ℕ) → slice_get (branches c) i ≡ Some b → is_among a (mentions b)
+    ≡ true → is_among a (choice_mentions c) ≡ true
 branch_mentions no_branch i b a e h = cc
 branch_mentions (branch d c) zero b a e h = let z : d ≡ b = cc in among_left a (mentions d) (choice_mentions c) (subst (λ y. is_among a (mentions y) ≡ true) (sym z) h)
 branch_mentions (branch d c) (suc i) b a e h = among_right a (mentions d) (choice_mentions c) (branch_mentions c i b a e h)
 
-part_mentions : (ps : Parts) (k : ℕ) (p : ℕ × Contract) (a : List ℕ) → slice_get (parts_list ps) k ≡ Some p → is_among a (choice_mentions p.1) ≡ true → is_among a (parts_mentions ps) ≡ true
+part_mentions : (ps : Parts) (k : ℕ) (p : ℕ × Contract) (a : List ℕ) → slice_get (parts_list ps) k ≡ Some p
+    → is_among a (choice_mentions p.1) ≡ true → is_among a (parts_mentions ps) ≡ true
 part_mentions no_part k p a e h = cc
 part_mentions (part v c ps) zero p a e h = let z : (let q : ℕ × Contract = (v, c) in q) ≡ p = cc in among_left a (choice_mentions c) (parts_mentions ps) (subst (λ (q : ℕ × Contract). is_among a (choice_mentions q.1) ≡ true) (sym z) h)
 part_mentions (part v c ps) (suc k) p a e h = among_right a (choice_mentions c) (parts_mentions ps) (part_mentions ps k p a e h)
 
-choice_next : (c : Contract) (i : ℕ) (sp : Subterm) (a : List ℕ) → option_map at_branch (slice_get (branches c) i) ≡ Some sp → is_among a (named_in sp) ≡ true → is_among a (choice_mentions c) ≡ true
+choice_next : (c : Contract) (i : ℕ) (sp : Subterm) (a : List ℕ) → option_map at_branch (slice_get (branches c) i) ≡ Some sp
+    → is_among a (named_in sp) ≡ true → is_among a (choice_mentions c) ≡ true
 choice_next c i sp a e h = by_branch (slice_get (branches c) i) refl e
   where
     by_branch : (o : Option term.Guarded) → slice_get (branches c) i ≡ o → option_map at_branch o ≡ Some sp → is_among a (choice_mentions c) ≡ true
     by_branch None f q = cc
     by_branch (Some b) f q = let z : at_branch b ≡ sp = cc in branch_mentions c i b a f (subst (λ y. is_among a (named_in y) ≡ true) (sym z) h)
 
-below_next : (b : term.Guarded) (st : PathStep) (sp : Subterm) (a : List ℕ) → below b st ≡ Some sp → is_among a (named_in sp) ≡ true → is_among a (mentions b) ≡ true
+below_next : (b : term.Guarded) (st : PathStep) (sp : Subterm) (a : List ℕ) → below b st ≡ Some sp → is_among a (named_in sp) ≡ true
+    → is_among a (mentions b) ≡ true
 below_next (put_reveal puts reveals test next) (To i) sp a e h = choice_next next i sp a e h
 below_next (put_reveal puts reveals test next) (Into k) sp a e h = cc
 below_next (split ps) (To i) sp a e h = cc
@@ -95,24 +99,32 @@ below_next (withdraw party) st sp a e h = cc
 below_next (auth party body) st sp a e h = cc
 below_next (after height body) st sp a e h = cc
 
-next_mentions : (sp : Subterm) (st : PathStep) (next : Subterm) (a : List ℕ) → next_subterm sp st ≡ Some next → is_among a (named_in next) ≡ true → is_among a (named_in sp) ≡ true
+next_mentions : (sp : Subterm) (st : PathStep) (next : Subterm) (a : List ℕ) → next_subterm sp st ≡ Some next → is_among a (named_in next)
+    ≡ true → is_among a (named_in sp) ≡ true
 next_mentions (position c) (To i) next a e h = choice_next c i next a e h
 next_mentions (position c) (Into k) next a e h = cc
 next_mentions (at_branch b) st next a e h = core_mentions b a (below_next (core b) st next a e h)
 
-path_mentions : (path : List PathStep) (sp end : Subterm) (a : List ℕ) → subterm_from sp path ≡ Some end → is_among a (named_in end) ≡ true → is_among a (named_in sp) ≡ true
+path_mentions : (path : List PathStep) (sp end : Subterm) (a : List ℕ) → subterm_from sp path ≡ Some end → is_among a (named_in end) ≡ true
+    → is_among a (named_in sp) ≡ true
 path_mentions [] sp end a e h = let z : sp ≡ end = cc in subst (λ y. is_among a (named_in y) ≡ true) (sym z) h
 path_mentions (st ∷ path) sp end a e h = by_next (next_subterm sp st) refl e (λ next f q. next_mentions sp st next a f (path_mentions path next end a q h))
   where
-    by_next : (o : Option Subterm) → next_subterm sp st ≡ o → option_and_then (λ q. subterm_from q path) o ≡ Some end → ((next : Subterm) → next_subterm sp st ≡ Some next → subterm_from next path ≡ Some end → is_among a (named_in sp) ≡ true) → is_among a (named_in sp) ≡ true
+    by_next : (o : Option Subterm) → next_subterm sp st ≡ o → option_and_then (λ q. subterm_from q path) o ≡ Some end
+        → ((next : Subterm) → next_subterm sp st ≡ Some next → subterm_from next path ≡ Some end → is_among a (named_in sp) ≡ true)
+        → is_among a (named_in sp) ≡ true
     by_next None f q go = cc
     by_next (Some next) f q go = go next f q
 
 -- whom a branch of a contract mentions takes part
-pub branch_named : (ad : Advert) (path : List PathStep) (b : term.Guarded) (a : List ℕ) → at ad.root path ≡ Some b → is_among a (mentions b) ≡ true → is_among a (participants ad) ≡ true
-branch_named ad path b a e h = added (map party_of ad.pre ++ choice_mentions ad.root) [] a (among_right a (map party_of ad.pre) (choice_mentions ad.root) (by_spot (subterm_from (position ad.root) path) refl e))
+pub branch_named : (ad : Advert) (path : List PathStep) (b : term.Guarded) (a : List ℕ) → at ad.root path ≡ Some b → is_among a (mentions b)
+    ≡ true → is_among a (participants ad) ≡ true
+branch_named ad path b a e h =
+    added (map party_of ad.pre ++ choice_mentions ad.root) [] a
+    (among_right a (map party_of ad.pre) (choice_mentions ad.root) (by_spot (subterm_from (position ad.root) path) refl e))
   where
-    by_spot : (o : Option Subterm) → subterm_from (position ad.root) path ≡ o → option_and_then as_branch o ≡ Some b → is_among a (choice_mentions ad.root) ≡ true
+    by_spot : (o : Option Subterm) → subterm_from (position ad.root) path ≡ o → option_and_then as_branch o ≡ Some b
+        → is_among a (choice_mentions ad.root) ≡ true
     by_spot None f q = cc
     by_spot (Some (position c)) f q = cc
     by_spot (Some (at_branch d)) f q = let z : d ≡ b = cc in path_mentions path (position ad.root) (at_branch d) a f (subst (λ y. is_among a (mentions y) ≡ true) (sym z) h)
@@ -177,8 +189,11 @@ a_person a h =
     let r = and_parts (is_readable_pre a.pre) _ h.readable in
     let q = and_parts (is_some_list a.pre && list_all is_readable_entry a.pre) _ r.0 in
     let u = and_parts (is_some_list a.pre) _ q.0 in
-    let p = some_pre a.pre u.0 in
-    (party_of p.0, added (map party_of a.pre ++ choice_mentions a.root) [] (party_of p.0) (among_left (party_of p.0) (map party_of a.pre) (choice_mentions a.root) (mapped p.0 a.pre p.1)))
+    let p = some_pre a.pre u.0 in (
+      party_of p.0,
+      added (map party_of a.pre ++ choice_mentions a.root) [] (party_of p.0)
+          (among_left (party_of p.0) (map party_of a.pre) (choice_mentions a.root) (mapped p.0 a.pre p.1)),
+    )
   where
     mapped : (p : Pre) (pre : List Pre) → Is_in p pre → is_among (party_of p) (map party_of pre) ≡ true
     mapped p [] i = absurd i

@@ -27,14 +27,16 @@ module _ (hash : List ℕ → List ℕ) (size : HashesBytes hash) (st : Instance
   made_place : (d : Unsigned) (k : ℕ) → k < 2 ^ 32 → IsPlace (output_outpoint hash d k)
   made_place d k h = record { txid = size.bytes (hash (stripped (tx_of d))); size = size.size (hash (stripped (tx_of d))); vout = h }
 
-  branch_placed : (here : Standing) (choice : Contract) (i : ℕ) (end : PathEnd) → IsPlace here.output.outpoint → branch_end here choice i ≡ Some end → Placed end
+  branch_placed : (here : Standing) (choice : Contract) (i : ℕ) (end : PathEnd) → IsPlace here.output.outpoint → branch_end here choice i
+      ≡ Some end → Placed end
   branch_placed here choice i end f h = by_branch (slice_get (branches choice) i) h
     where
       by_branch : (o : Option term.Guarded) → option_map (by_path.at_branch here i) o ≡ Some end → Placed end
       by_branch None q = cc
       by_branch (Some b) q = let z : by_path.at_branch here i b ≡ end = cc in subst Placed z f
 
-  continued_placed : (here : Standing) (i : ℕ) (b c : term.Guarded) (p : Standing × Contract) → continued_end hash st here i b c ≡ Some p → IsPlace p.0.output.outpoint
+  continued_placed : (here : Standing) (i : ℕ) (b c : term.Guarded) (p : Standing × Contract) → continued_end hash st here i b c ≡ Some p
+      → IsPlace p.0.output.outpoint
   continued_placed here i b (put_reveal puts reveals test next) p h =
       let z : (let q : Standing × Contract = (continued hash st (branch_path here.position i) (branch_unsigned hash st here i b) (continued_value st here.output.value puts) next, next) in q) ≡ p = cc in
       subst (λ (q : Standing × Contract). IsPlace q.0.output.outpoint) z (made_place (branch_unsigned hash st here i b) 0 (omega arith))
@@ -48,7 +50,9 @@ module _ (hash : List ℕ → List ℕ) (size : HashesBytes hash) (st : Instance
   part_placed here i k b (withdraw party) end l h = cc
   part_placed here i k b (split ps) end l h = by_part (slice_get (parts_list ps) k) h
     where
-      by_part : (o : Option (ℕ × Contract)) → option_map (λ (p : ℕ × Contract). by_path.at_position (part_standing hash st (branch_path here.position i) (branch_unsigned hash st here i b) k p.0 p.1) p.1) o ≡ Some end → Placed end
+      by_part : (o : Option (ℕ × Contract)) → option_map
+          (λ (p : ℕ × Contract). by_path.at_position
+          (part_standing hash st (branch_path here.position i) (branch_unsigned hash st here i b) k p.0 p.1) p.1) o ≡ Some end → Placed end
       by_part None q = cc
       by_part (Some x) q =
           let z : by_path.at_position (part_standing hash st (branch_path here.position i) (branch_unsigned hash st here i b) k x.0 x.1) x.1 ≡ end = cc in
@@ -61,14 +65,16 @@ module _ (hash : List ℕ → List ℕ) (size : HashesBytes hash) (st : Instance
   next_placed (Into k) (by_path.at_position here choice) next l f h = cc
   next_placed (To j) (by_path.at_branch here i b) next l f h = by_continued (continued_end hash st here i b (core b)) refl h
     where
-      by_continued : (o : Option (Standing × Contract)) → continued_end hash st here i b (core b) ≡ o → option_and_then (λ (p : Standing × Contract). branch_end p.0 p.1 j) o ≡ Some next → Placed next
+      by_continued : (o : Option (Standing × Contract)) → continued_end hash st here i b (core b) ≡ o
+          → option_and_then (λ (p : Standing × Contract). branch_end p.0 p.1 j) o ≡ Some next → Placed next
       by_continued None e q = cc
       by_continued (Some p) e q = branch_placed p.0 p.1 j next (continued_placed here i b (core b) p e) q
   next_placed (Into k) (by_path.at_branch here i b) next l f h = part_placed here i k b (core b) next l h
 
   from_placed : (path : List PathStep) (here end : PathEnd) → AllByRecursion IsStep path → Placed here → end_from hash st here path ≡ Some end → Placed end
   from_placed [] here end l f h = let e : here ≡ end = cc in subst Placed e f
-  from_placed (step ∷ path) here end l f h = by_next (next_end hash st step here) refl h (λ next e q. from_placed path next end l.1 (next_placed step here next l.0 f e) q)
+  from_placed (step ∷ path) here end l f h =
+      by_next (next_end hash st step here) refl h (λ next e q. from_placed path next end l.1 (next_placed step here next l.0 f e) q)
     where
       by_next : (o : Option PathEnd) → next_end hash st step here ≡ o → option_and_then (λ (next : PathEnd). end_from hash st next path) o ≡ Some end
           → ((next : PathEnd) → next_end hash st step here ≡ Some next → end_from hash st next path ≡ Some end → Placed end) → Placed end
@@ -76,13 +82,15 @@ module _ (hash : List ℕ → List ℕ) (size : HashesBytes hash) (st : Instance
       by_next (Some next) e q go = go next e q
 
   -- where a position's output lies is a place
-  pub position_place : IsWellFormed st.advert → (q : List PathStep) (here : Standing) (choice : Contract) → position_at hash st q ≡ Some (here, choice) → IsPlace here.output.outpoint
+  pub position_place : IsWellFormed st.advert → (q : List PathStep) (here : Standing) (choice : Contract) → position_at hash st q
+      ≡ Some (here, choice) → IsPlace here.output.outpoint
   position_place well q here choice h = by_stand (end_at hash st q) refl h
     where
       placed : (end : PathEnd) → end_at hash st q ≡ Some end → Placed end
       placed end e =
           let v = view_at hash st q ∙ ap (option_map _) e in
-          from_placed q (by_path.at_position (root_standing hash st) st.advert.root) end (path_fine st.advert q _ well v) (made_place (initial_unsigned hash st) 0 (omega arith)) e
+          from_placed q (by_path.at_position (root_standing hash st) st.advert.root) end (path_fine st.advert q _ well v)
+          (made_place (initial_unsigned hash st) 0 (omega arith)) e
 
       by_end : (end : PathEnd) → Placed end → as_position hash st end ≡ Some (here, choice) → IsPlace here.output.outpoint
       by_end (by_path.at_position a c) f e = let z : (let p : Standing × Contract = (a, c) in p) ≡ (here, choice) = cc in subst (λ (p : Standing × Contract). IsPlace p.0.output.outpoint) z f

@@ -27,18 +27,23 @@ module _ (hash : List ℕ → List ℕ) (s : Instance) where
   abbrev pub Within : List (List PathStep × Unsigned) → List (List PathStep × Unsigned) → Type 0
   Within xs ys = (d : List PathStep × Unsigned) → Is_in d xs → Is_in d ys
 
-  choice_within : (here : Standing) (j i : ℕ) (c : Contract) (b : term.Guarded) → slice_get (branches c) i ≡ Some b → Within (branch_transactions hash s here (i + j) (lock b) b) (choice_transactions hash s here j c)
+  choice_within : (here : Standing) (j i : ℕ) (c : Contract) (b : term.Guarded) → slice_get (branches c) i ≡ Some b
+      → Within (branch_transactions hash s here (i + j) (lock b) b) (choice_transactions hash s here j c)
   choice_within here j i no_branch b h = cc
   choice_within here j zero (branch d c) b h =
       let e : d ≡ b = cc in
       let z : 0 + j ≡ j = omega arith in
-      λ x k. in_left x (branch_transactions hash s here j (lock d) d) (choice_transactions hash s here (j + 1) c) (subst (λ y. Is_in x (branch_transactions hash s here j (lock y) y)) (sym e) (subst (λ n. Is_in x (branch_transactions hash s here n (lock b) b)) z k))
+      λ x k. in_left x (branch_transactions hash s here j (lock d) d) (choice_transactions hash s here (j + 1) c)
+      (subst (λ y. Is_in x (branch_transactions hash s here j (lock y) y)) (sym e)
+      (subst (λ n. Is_in x (branch_transactions hash s here n (lock b) b)) z k))
   choice_within here j (suc i) (branch d c) b h =
       let z : suc i + j ≡ i + (j + 1) = omega arith in
-      λ x k. in_right x (branch_transactions hash s here j (lock d) d) (choice_transactions hash s here (j + 1) c) (choice_within here (j + 1) i c b h x (subst (λ n. Is_in x (branch_transactions hash s here n (lock b) b)) z k))
+      λ x k. in_right x (branch_transactions hash s here j (lock d) d) (choice_transactions hash s here (j + 1) c)
+      (choice_within here (j + 1) i c b h x (subst (λ n. Is_in x (branch_transactions hash s here n (lock b) b)) z k))
 
   -- the transaction of a branch stands there
-  pub branch_here : (here : Standing) (i l : ℕ) (b : term.Guarded) → Is_in (branch_path here.position i, core_unsigned hash s here i l (core b)) (branch_transactions hash s here i l b)
+  pub branch_here : (here : Standing) (i l : ℕ) (b : term.Guarded)
+      → Is_in (branch_path here.position i, core_unsigned hash s here i l (core b)) (branch_transactions hash s here i l b)
   branch_here here i l (auth party body) = branch_here here i l body
   branch_here here i l (after height body) = branch_here here i l body
   branch_here here i l (put_reveal puts reveals test next) = inl refl
@@ -46,8 +51,11 @@ module _ (hash : List ℕ → List ℕ) (s : Instance) where
   branch_here here i l (split parts) = inl refl
 
   -- and what stands under it
-  put_within : (here : Standing) (i l : ℕ) (b : term.Guarded) (puts reveals : List (List ℕ)) (test : term.Pred) (next : Contract) → core b ≡ put_reveal puts reveals test next
-      → Within (choice_transactions hash s (continued hash s (branch_path here.position i) (core_unsigned hash s here i l (put_reveal puts reveals test next)) (continued_value s here.output.value puts) next) 0 next) (branch_transactions hash s here i l b)
+  put_within : (here : Standing) (i l : ℕ) (b : term.Guarded) (puts reveals : List (List ℕ)) (test : term.Pred) (next : Contract) → core b
+      ≡ put_reveal puts reveals test next
+      → Within (choice_transactions hash s (continued hash s (branch_path here.position i)
+      (core_unsigned hash s here i l (put_reveal puts reveals test next)) (continued_value s here.output.value puts) next) 0 next)
+      (branch_transactions hash s here i l b)
   put_within here i l (auth party body) puts reveals test next h = put_within here i l body puts reveals test next h
   put_within here i l (after height body) puts reveals test next h = put_within here i l body puts reveals test next h
   put_within here i l (put_reveal p r t n) puts reveals test next h =
@@ -55,13 +63,15 @@ module _ (hash : List ℕ → List ℕ) (s : Instance) where
   put_within here i l (withdraw party) puts reveals test next h = cc
   put_within here i l (split parts) puts reveals test next h = cc
 
-  parts_within : (path : List PathStep) (made : Unsigned) (j k : ℕ) (ps : Parts) (p : ℕ × Contract) → slice_get (parts_list ps) k ≡ Some p → Within (choice_transactions hash s (part_standing hash s path made (k + j) p.0 p.1) 0 p.1) (parts_transactions hash s path made j ps)
+  parts_within : (path : List PathStep) (made : Unsigned) (j k : ℕ) (ps : Parts) (p : ℕ × Contract) → slice_get (parts_list ps) k ≡ Some p
+      → Within (choice_transactions hash s (part_standing hash s path made (k + j) p.0 p.1) 0 p.1) (parts_transactions hash s path made j ps)
   parts_within path made j k no_part p h = cc
   parts_within path made j zero (part v c ps) p h =
       let e : (let q : ℕ × Contract = (v, c) in q) ≡ p = cc in
       let z : 0 + j ≡ j = omega arith in
       λ x i. in_left x (choice_transactions hash s (part_standing hash s path made j v c) 0 c) (parts_transactions hash s path made (j + 1) ps)
-      (subst (λ (q : ℕ × Contract). Is_in x (choice_transactions hash s (part_standing hash s path made j q.0 q.1) 0 q.1)) (sym e) (subst (λ n. Is_in x (choice_transactions hash s (part_standing hash s path made n p.0 p.1) 0 p.1)) z i))
+      (subst (λ (q : ℕ × Contract). Is_in x (choice_transactions hash s (part_standing hash s path made j q.0 q.1) 0 q.1)) (sym e)
+      (subst (λ n. Is_in x (choice_transactions hash s (part_standing hash s path made n p.0 p.1) 0 p.1)) z i))
   parts_within path made j (suc k) (part v c ps) p h =
       let z : suc k + j ≡ k + (j + 1) = omega arith in
       λ x i. in_right x (choice_transactions hash s (part_standing hash s path made j v c) 0 c) (parts_transactions hash s path made (j + 1) ps)
@@ -80,7 +90,8 @@ module _ (hash : List ℕ → List ℕ) (s : Instance) where
   Covered (by_path.at_position here choice) = Within (choice_transactions hash s here 0 choice) (path_transactions hash s)
   Covered (by_path.at_branch here i b) = Within (branch_transactions hash s here i (lock b) b) (path_transactions hash s)
 
-  branch_covered : (here : Standing) (choice : Contract) (i : ℕ) (st : PathEnd) → Within (choice_transactions hash s here 0 choice) (path_transactions hash s) → branch_end here choice i ≡ Some st → Covered st
+  branch_covered : (here : Standing) (choice : Contract) (i : ℕ) (st : PathEnd)
+      → Within (choice_transactions hash s here 0 choice) (path_transactions hash s) → branch_end here choice i ≡ Some st → Covered st
   branch_covered here choice i st w h = by_branch (slice_get (branches choice) i) refl h
     where
       by_branch : (o : Option term.Guarded) → slice_get (branches choice) i ≡ o → option_map (by_path.at_branch here i) o ≡ Some st → Covered st
@@ -90,30 +101,39 @@ module _ (hash : List ℕ → List ℕ) (s : Instance) where
           let n : i + 0 ≡ i = omega arith in
           subst Covered z (λ x k. w x (choice_within here 0 i choice b e x (subst (λ m. Is_in x (branch_transactions hash s here m (lock b) b)) (sym n) k)))
 
-  continued_covered : (here : Standing) (i : ℕ) (b c : term.Guarded) (p : Standing × Contract) → core b ≡ c → Within (branch_transactions hash s here i (lock b) b) (path_transactions hash s) → continued_end hash s here i b c ≡ Some p → Within (choice_transactions hash s p.0 0 p.1) (path_transactions hash s)
+  continued_covered : (here : Standing) (i : ℕ) (b c : term.Guarded) (p : Standing × Contract) → core b ≡ c
+      → Within (branch_transactions hash s here i (lock b) b) (path_transactions hash s) → continued_end hash s here i b c ≡ Some p
+      → Within (choice_transactions hash s p.0 0 p.1) (path_transactions hash s)
   continued_covered here i b (put_reveal puts reveals test next) p e w h =
       let d : branch_unsigned hash s here i b ≡ core_unsigned hash s here i (lock b) (put_reveal puts reveals test next) = ap (core_unsigned hash s here i (lock b)) e in
       let z : (let q : Standing × Contract = (continued hash s (branch_path here.position i) (branch_unsigned hash s here i b) (continued_value s here.output.value puts) next, next) in q) ≡ p = cc in
       subst (λ (q : Standing × Contract). Within (choice_transactions hash s q.0 0 q.1) (path_transactions hash s)) z
-      (λ x k. w x (put_within here i (lock b) b puts reveals test next e x (subst (λ y. Is_in x (choice_transactions hash s (continued hash s (branch_path here.position i) y (continued_value s here.output.value puts) next) 0 next)) d k)))
+      (λ x k. w x (put_within here i (lock b) b puts reveals test next e x
+      (subst (λ y. Is_in x (choice_transactions hash s
+      (continued hash s (branch_path here.position i) y (continued_value s here.output.value puts) next) 0 next)) d k)))
   continued_covered here i b (withdraw party) p e w h = cc
   continued_covered here i b (split parts) p e w h = cc
   continued_covered here i b (auth party body) p e w h = cc
   continued_covered here i b (after height body) p e w h = cc
 
-  part_covered : (here : Standing) (i k : ℕ) (b c : term.Guarded) (st : PathEnd) → core b ≡ c → Within (branch_transactions hash s here i (lock b) b) (path_transactions hash s) → part_end hash s here i b k c ≡ Some st → Covered st
+  part_covered : (here : Standing) (i k : ℕ) (b c : term.Guarded) (st : PathEnd) → core b ≡ c
+      → Within (branch_transactions hash s here i (lock b) b) (path_transactions hash s) → part_end hash s here i b k c ≡ Some st → Covered st
   part_covered here i k b (put_reveal puts reveals test next) st e w h = cc
   part_covered here i k b (withdraw party) st e w h = cc
   part_covered here i k b (split ps) st e w h = by_part (slice_get (parts_list ps) k) refl h
     where
-      by_part : (o : Option (ℕ × Contract)) → slice_get (parts_list ps) k ≡ o → option_map (λ (p : ℕ × Contract). by_path.at_position (part_standing hash s (branch_path here.position i) (branch_unsigned hash s here i b) k p.0 p.1) p.1) o ≡ Some st → Covered st
+      by_part : (o : Option (ℕ × Contract)) → slice_get (parts_list ps) k ≡ o
+          → option_map (λ (p : ℕ × Contract). by_path.at_position
+          (part_standing hash s (branch_path here.position i) (branch_unsigned hash s here i b) k p.0 p.1) p.1) o ≡ Some st → Covered st
       by_part None f q = cc
       by_part (Some p) f q =
           let d : branch_unsigned hash s here i b ≡ core_unsigned hash s here i (lock b) (split ps) = ap (core_unsigned hash s here i (lock b)) e in
           let n : k + 0 ≡ k = omega arith in
           let z : by_path.at_position (part_standing hash s (branch_path here.position i) (branch_unsigned hash s here i b) k p.0 p.1) p.1 ≡ st = cc in
-          subst Covered z (λ x j. w x (split_within here i (lock b) b ps e x (parts_within (branch_path here.position i) (core_unsigned hash s here i (lock b) (split ps)) 0 k ps p f x
-          (subst (λ m. Is_in x (choice_transactions hash s (part_standing hash s (branch_path here.position i) (core_unsigned hash s here i (lock b) (split ps)) m p.0 p.1) 0 p.1)) (sym n)
+          subst Covered z (λ x j. w x (split_within here i (lock b) b ps e x
+          (parts_within (branch_path here.position i) (core_unsigned hash s here i (lock b) (split ps)) 0 k ps p f x
+          (subst (λ m. Is_in x (choice_transactions hash s
+          (part_standing hash s (branch_path here.position i) (core_unsigned hash s here i (lock b) (split ps)) m p.0 p.1) 0 p.1)) (sym n)
           (subst (λ y. Is_in x (choice_transactions hash s (part_standing hash s (branch_path here.position i) y k p.0 p.1) 0 p.1)) d j)))))
   part_covered here i k b (auth party body) st e w h = cc
   part_covered here i k b (after height body) st e w h = cc
@@ -123,7 +143,8 @@ module _ (hash : List ℕ → List ℕ) (s : Instance) where
   next_covered (Into k) (by_path.at_position here choice) next w h = cc
   next_covered (To j) (by_path.at_branch here i b) next w h = by_continued (continued_end hash s here i b (core b)) refl h
     where
-      by_continued : (o : Option (Standing × Contract)) → continued_end hash s here i b (core b) ≡ o → option_and_then (λ (p : Standing × Contract). branch_end p.0 p.1 j) o ≡ Some next → Covered next
+      by_continued : (o : Option (Standing × Contract)) → continued_end hash s here i b (core b) ≡ o
+          → option_and_then (λ (p : Standing × Contract). branch_end p.0 p.1 j) o ≡ Some next → Covered next
       by_continued None e q = cc
       by_continued (Some p) e q = branch_covered p.0 p.1 j next (continued_covered here i b (core b) p refl w e) q
   next_covered (Into k) (by_path.at_branch here i b) next w h = part_covered here i k b (core b) next refl w h
@@ -141,12 +162,24 @@ module _ (hash : List ℕ → List ℕ) (s : Instance) where
   covered path end h = from_covered path (by_path.at_position (root_standing hash s) s.advert.root) end (λ x k. k) h
 
   -- the strings of a listed transaction are among the compiled ones
-  pub transactions_strings : (ds : List (List PathStep × Unsigned)) (d : List PathStep × Unsigned) (t : List ℕ) → Is_in d ds → is_among t (unsigned_strings hash d.1) ≡ true → is_among t (flat_map (λ p. unsigned_strings hash p.1) ds) ≡ true
+  pub transactions_strings : (ds : List (List PathStep × Unsigned)) (d : List PathStep × Unsigned) (t : List ℕ) → Is_in d ds
+      → is_among t (unsigned_strings hash d.1) ≡ true → is_among t (flat_map (λ p. unsigned_strings hash p.1) ds) ≡ true
   transactions_strings [] d t h k = absurd h
-  transactions_strings (x ∷ ds) d t (inl e) k = subst (λ ts. is_among t ts ≡ true) (sym (flat_map-cons (λ p. unsigned_strings hash p.1) x ds)) (among_left t (unsigned_strings hash x.1) (flat_map (λ p. unsigned_strings hash p.1) ds) (subst (λ (y : List PathStep × Unsigned). is_among t (unsigned_strings hash y.1) ≡ true) e k))
-  transactions_strings (x ∷ ds) d t (inr i) k = subst (λ ts. is_among t ts ≡ true) (sym (flat_map-cons (λ p. unsigned_strings hash p.1) x ds)) (among_right t (unsigned_strings hash x.1) (flat_map (λ p. unsigned_strings hash p.1) ds) (transactions_strings ds d t i k))
+  transactions_strings (x ∷ ds) d t (inl e) k =
+      subst (λ ts. is_among t ts ≡ true) (sym (flat_map-cons (λ p. unsigned_strings hash p.1) x ds))
+      (among_left t (unsigned_strings hash x.1) (flat_map (λ p. unsigned_strings hash p.1) ds)
+      (subst (λ (y : List PathStep × Unsigned). is_among t (unsigned_strings hash y.1) ≡ true) e k))
+  transactions_strings (x ∷ ds) d t (inr i) k =
+      subst (λ ts. is_among t ts ≡ true) (sym (flat_map-cons (λ p. unsigned_strings hash p.1) x ds))
+      (among_right t (unsigned_strings hash x.1) (flat_map (λ p. unsigned_strings hash p.1) ds) (transactions_strings ds d t i k))
 
-  pub transactions_labels : (ds : List (List PathStep × Unsigned)) (d : List PathStep × Unsigned) (t : List ℕ) → Is_in d ds → is_among t (path_labels s d.0) ≡ true → is_among t (flat_map (λ p. path_labels s p.0) ds) ≡ true
+  pub transactions_labels : (ds : List (List PathStep × Unsigned)) (d : List PathStep × Unsigned) (t : List ℕ) → Is_in d ds
+      → is_among t (path_labels s d.0) ≡ true → is_among t (flat_map (λ p. path_labels s p.0) ds) ≡ true
   transactions_labels [] d t h k = absurd h
-  transactions_labels (x ∷ ds) d t (inl e) k = subst (λ ts. is_among t ts ≡ true) (sym (flat_map-cons (λ p. path_labels s p.0) x ds)) (among_left t (path_labels s x.0) (flat_map (λ p. path_labels s p.0) ds) (subst (λ (y : List PathStep × Unsigned). is_among t (path_labels s y.0) ≡ true) e k))
-  transactions_labels (x ∷ ds) d t (inr i) k = subst (λ ts. is_among t ts ≡ true) (sym (flat_map-cons (λ p. path_labels s p.0) x ds)) (among_right t (path_labels s x.0) (flat_map (λ p. path_labels s p.0) ds) (transactions_labels ds d t i k))
+  transactions_labels (x ∷ ds) d t (inl e) k =
+      subst (λ ts. is_among t ts ≡ true) (sym (flat_map-cons (λ p. path_labels s p.0) x ds))
+      (among_left t (path_labels s x.0) (flat_map (λ p. path_labels s p.0) ds)
+      (subst (λ (y : List PathStep × Unsigned). is_among t (path_labels s y.0) ≡ true) e k))
+  transactions_labels (x ∷ ds) d t (inr i) k =
+      subst (λ ts. is_among t ts ≡ true) (sym (flat_map-cons (λ p. path_labels s p.0) x ds))
+      (among_right t (path_labels s x.0) (flat_map (λ p. path_labels s p.0) ds) (transactions_labels ds d t i k))

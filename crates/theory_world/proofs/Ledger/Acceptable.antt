@@ -127,11 +127,13 @@ some_entry (x ∷ os) k zero o h l =
     rw (a, b) refl
 some_entry (x ∷ os) k (suc n) o h l = by_live x.live (some_entry os (k + 1) n o h l)
   where
-    by_place : (b : Bool) → is_some (at_place (live_from (k + 1) os) o.outpoint) ≡ true → is_some (cond b (Some (k, tx_out x)) (at_place (live_from (k + 1) os) o.outpoint)) ≡ true
+    by_place : (b : Bool) → is_some (at_place (live_from (k + 1) os) o.outpoint) ≡ true
+        → is_some (cond b (Some (k, tx_out x)) (at_place (live_from (k + 1) os) o.outpoint)) ≡ true
     by_place true ih = refl
     by_place false ih = ih
 
-    by_live : (b : Bool) → is_some (at_place (live_from (k + 1) os) o.outpoint) ≡ true → is_some (at_place (if b then (x.outpoint, (k, tx_out x)) ∷ live_from (k + 1) os else live_from (k + 1) os) o.outpoint) ≡ true
+    by_live : (b : Bool) → is_some (at_place (live_from (k + 1) os) o.outpoint) ≡ true
+        → is_some (at_place (if b then (x.outpoint, (k, tx_out x)) ∷ live_from (k + 1) os else live_from (k + 1) os) o.outpoint) ≡ true
     by_live true ih = by_place (same_outpoint o.outpoint x.outpoint) ih
     by_live false ih = ih
 
@@ -157,7 +159,8 @@ module _ (s : Setup) (w : World) (size : IsHash s.hash) (apart : (m n : ℕ) (o 
     here : at_place (live_from 0 w.outputs) x.outpoint ≡ Some (n, tx_out r.output)
     here = subst (λ p. at_place (live_from 0 w.outputs) p ≡ Some (n, tx_out r.output)) (sym r.outpoint) (entry n r.output r.there r.live)
 
-    input_fine : (us : List (List (List ℕ))) (k : ℕ) → first_reason (input_row s.hash w.book (with_witnesses tx us) k (record (input_of x) { witness = u }) (tx_out r.output)) ≡ None
+    input_fine : (us : List (List (List ℕ))) (k : ℕ)
+        → first_reason (input_row s.hash w.book (with_witnesses tx us) k (record (input_of x) { witness = u }) (tx_out r.output)) ≡ None
     input_fine us k =
         let i = record (input_of x) { witness = u } in
         let l : script_of u ≡ x.script = ap script_of r.is ∙ script-last r.items x.script in
@@ -216,7 +219,8 @@ module _ (s : Setup) (w : World) (size : IsHash s.hash) (apart : (m n : ℕ) (o 
       let f = spent_worth tx xs us ns h.1 in
       sum_by-cons (spent_value (live_from 0 w.outputs)) i (witnessed (map input_of xs) us) ∙ (λ j. e j + f j)
 
-  stand : (tx : Tx) (xs : List Spent) (us : List (List (List ℕ))) (ns : List ℕ) → AllReady s w tx xs us ns → StandFor w.outputs ns (witnessed (map input_of xs) us)
+  stand : (tx : Tx) (xs : List Spent) (us : List (List (List ℕ))) (ns : List ℕ) → AllReady s w tx xs us ns
+      → StandFor w.outputs ns (witnessed (map input_of xs) us)
   stand tx [] [] [] h = tt
   stand tx [] [] (n ∷ ns) h = absurd h
   stand tx [] (u ∷ us) ns h = absurd h
@@ -238,14 +242,18 @@ module _ (s : Setup) (w : World) (size : IsHash s.hash) (apart : (m n : ℕ) (o 
       λ j. e j + f j
 
   -- the place of one isn't that of another with another number
-  no_place : (tx : Tx) (n : ℕ) (o : Output) (xs : List Spent) (us : List (List (List ℕ))) (ns : List ℕ) → slice_get w.outputs n ≡ Some o → AllReady s w tx xs us ns → has_number n ns ≡ false
+  no_place : (tx : Tx) (n : ℕ) (o : Output) (xs : List Spent) (us : List (List (List ℕ))) (ns : List ℕ) → slice_get w.outputs n ≡ Some o
+      → AllReady s w tx xs us ns → has_number n ns ≡ false
       → list_any (λ (j : TxIn). same_outpoint j.prev o.outpoint) (witnessed (map input_of xs) us) ≡ false
   no_place tx n o [] us ns e h d = refl
   no_place tx n o (x ∷ xs) [] ns e h d = absurd h
   no_place tx n o (x ∷ xs) (u ∷ us) [] e h d = absurd h
-  no_place tx n o (x ∷ xs) (u ∷ us) (m ∷ ms) e h d = by_test (same_outpoint x.outpoint o.outpoint) refl (no_place tx n o xs us ms e h.1 (or_parts (m == n) (has_number n ms) d).1)
+  no_place tx n o (x ∷ xs) (u ∷ us) (m ∷ ms) e h d =
+      by_test (same_outpoint x.outpoint o.outpoint) refl (no_place tx n o xs us ms e h.1 (or_parts (m == n) (has_number n ms) d).1)
     where
-      by_test : (b : Bool) → same_outpoint x.outpoint o.outpoint ≡ b → list_any (λ (j : TxIn). same_outpoint j.prev o.outpoint) (witnessed (map input_of xs) us) ≡ false → (b || list_any (λ (j : TxIn). same_outpoint j.prev o.outpoint) (witnessed (map input_of xs) us)) ≡ false
+      by_test : (b : Bool) → same_outpoint x.outpoint o.outpoint ≡ b
+          → list_any (λ (j : TxIn). same_outpoint j.prev o.outpoint) (witnessed (map input_of xs) us) ≡ false
+          → (b || list_any (λ (j : TxIn). same_outpoint j.prev o.outpoint) (witnessed (map input_of xs) us)) ≡ false
       by_test true q ih =
           let p : h.0.output.outpoint ≡ o.outpoint = sym h.0.outpoint ∙ place-true x.outpoint o.outpoint q in
           let z : m ≡ n = apart m n h.0.output o h.0.there e p in
@@ -253,7 +261,8 @@ module _ (s : Setup) (w : World) (size : IsHash s.hash) (apart : (m n : ℕ) (o 
           absurd (both_ways _ (or_parts (m == n) (has_number n ms) d).0 y)
       by_test false q ih = ih
 
-  no_repeat : (tx : Tx) (xs : List Spent) (us : List (List (List ℕ))) (ns : List ℕ) → AllReady s w tx xs us ns → are_distinct ns ≡ true → has_repeat (witnessed (map input_of xs) us) ≡ false
+  no_repeat : (tx : Tx) (xs : List Spent) (us : List (List (List ℕ))) (ns : List ℕ) → AllReady s w tx xs us ns → are_distinct ns ≡ true
+      → has_repeat (witnessed (map input_of xs) us) ≡ false
   no_repeat tx [] us ns h d = refl
   no_repeat tx (x ∷ xs) [] ns h d = absurd h
   no_repeat tx (x ∷ xs) (u ∷ us) [] h d = absurd h
@@ -302,5 +311,6 @@ module _ (s : Setup) (w : World) (size : IsHash s.hash) (apart : (m n : ℕ) (o 
       by_tests : (a b c d : Bool) → c ≡ false → d ≡ false → (a && (b && (c || d))) ≡ false
       by_tests a b c d p q = grind (arith, p, q)
 
-      final : (lock : ℕ) (is : List TxIn) → nat_lt w.tip lock ≡ false → nat_lt last_height lock ≡ false → (heeds_lock is && (not (lock == 0) && (nat_lt w.tip lock || nat_lt last_height lock))) ≡ false
+      final : (lock : ℕ) (is : List TxIn) → nat_lt w.tip lock ≡ false → nat_lt last_height lock ≡ false
+          → (heeds_lock is && (not (lock == 0) && (nat_lt w.tip lock || nat_lt last_height lock))) ≡ false
       final lock is p q = by_tests (heeds_lock is) (not (lock == 0)) (nat_lt w.tip lock) (nat_lt last_height lock) p q

@@ -66,7 +66,8 @@ module _ (s : Setup) (w : World) (tx : Tx) where
   abbrev live : List Entry
   live = live_from 0 w.outputs
 
-  one_spent : (k : ℕ) (i : TxIn) (q : ℕ × TxOut) → at_place live i.prev ≡ Some q → first_reason (input_row s.hash w.book tx k i q.1) ≡ None → IsSpent s w tx (q.0) i
+  one_spent : (k : ℕ) (i : TxIn) (q : ℕ × TxOut) → at_place live i.prev ≡ Some q → first_reason (input_row s.hash w.book tx k i q.1) ≡ None
+      → IsSpent s w tx (q.0) i
   one_spent k i q e h =
       let f = found w.outputs i.prev 0 q e in
       let row = no_reason-none_true (input_row s.hash w.book tx k i q.1) h in
@@ -85,7 +86,8 @@ module _ (s : Setup) (w : World) (tx : Tx) where
         filled = pf.1;
         pays = sym sc ∙ script_pays q.1.script (s.hash (script_of i.witness)) pf.0 (not-false _ row.1.1.0);
         short = shorts (items_of i.witness) row.1.1.1.0;
-        runs = subst (λ v. script_meaning s.hash (is_valid w.book (digest s.hash tx i (script_of i.witness) v)) (script_of i.witness) (items_of i.witness) ≡ true) va (not-false _ row.1.1.1.1.0);
+        runs = subst (λ v. script_meaning s.hash (is_valid w.book (digest s.hash tx i (script_of i.witness) v)) (script_of i.witness)
+            (items_of i.witness) ≡ true) va (not-false _ row.1.1.1.1.0);
         entry = e ∙ (λ j. Some (q.0, f.same j));
       }
     where
@@ -100,14 +102,16 @@ module _ (s : Setup) (w : World) (tx : Tx) where
   AllSpent [] (i ∷ is) = ⊥
   AllSpent (n ∷ ns) [] = ⊥
 
-  all_spent : (k : ℕ) (is : List TxIn) → list_all (λ i. is_some (at_place live i.prev)) is ≡ true → inputs_refusal s.hash w.book live tx k is ≡ None → AllSpent (map (spent_number live) is) is
+  all_spent : (k : ℕ) (is : List TxIn) → list_all (λ i. is_some (at_place live i.prev)) is ≡ true
+      → inputs_refusal s.hash w.book live tx k is ≡ None → AllSpent (map (spent_number live) is) is
   all_spent k [] h r = tt
   all_spent k (i ∷ is) h r =
       let p = and_parts (is_some (at_place live i.prev)) (list_all (λ j. is_some (at_place live j.prev)) is) h in
       let q = or_else-none (input_refusal s.hash w.book live tx k i) (inputs_refusal s.hash w.book live tx (k + 1) is) r in
       (by_entry (at_place live i.prev) refl p.0 q.0, all_spent (k + 1) is p.1 q.1)
     where
-      by_entry : (o : Option (ℕ × TxOut)) → at_place live i.prev ≡ o → is_some o ≡ true → option_and_then (λ p. first_reason (input_row s.hash w.book tx k i p.1)) o ≡ None
+      by_entry : (o : Option (ℕ × TxOut)) → at_place live i.prev ≡ o → is_some o ≡ true
+          → option_and_then (λ p. first_reason (input_row s.hash w.book tx k i p.1)) o ≡ None
           → IsSpent s w tx (option_map_or (λ p. p.0) o 0) i
       by_entry None e x y = cc
       by_entry (Some v) e x y = one_spent k i v e y
@@ -152,13 +156,18 @@ module _ (s : Setup) (w : World) (hs : List (List ℕ)) (tx : Tx) (h : HeardAll 
   inner = flat_map (input_strings s.hash (live_from 0 w.outputs) tx) tx.inputs
 
   pub heard_bytes : is_among (stripped tx) hs ≡ true
-  heard_bytes = h.heard (stripped tx) (among_left (stripped tx) (txid_strings s.hash tx ++ shared_strings s.hash tx) inner (among_left (stripped tx) (txid_strings s.hash tx) (shared_strings s.hash tx) (among_head (stripped tx) (s.hash (stripped tx) ∷ []))))
+  heard_bytes = h.heard (stripped tx) (among_left (stripped tx) (txid_strings s.hash tx ++ shared_strings s.hash tx) inner
+      (among_left (stripped tx) (txid_strings s.hash tx) (shared_strings s.hash tx) (among_head (stripped tx) (s.hash (stripped tx) ∷ []))))
 
   pub heard_bytes_hash : is_among (s.hash (stripped tx)) hs ≡ true
-  heard_bytes_hash = h.heard (s.hash (stripped tx)) (among_left (s.hash (stripped tx)) (txid_strings s.hash tx ++ shared_strings s.hash tx) inner (among_left (s.hash (stripped tx)) (txid_strings s.hash tx) (shared_strings s.hash tx) (among_tail (s.hash (stripped tx)) (stripped tx) (s.hash (stripped tx) ∷ []) (among_head (s.hash (stripped tx)) []))))
+  heard_bytes_hash = h.heard (s.hash (stripped tx))
+      (among_left (s.hash (stripped tx)) (txid_strings s.hash tx ++ shared_strings s.hash tx) inner
+      (among_left (s.hash (stripped tx)) (txid_strings s.hash tx) (shared_strings s.hash tx)
+      (among_tail (s.hash (stripped tx)) (stripped tx) (s.hash (stripped tx) ∷ []) (among_head (s.hash (stripped tx)) []))))
 
   pub heard_shared : (t : List ℕ) → is_among t (shared_strings s.hash tx) ≡ true → is_among t hs ≡ true
-  heard_shared t i = h.heard t (among_left t (txid_strings s.hash tx ++ shared_strings s.hash tx) inner (among_right t (txid_strings s.hash tx) (shared_strings s.hash tx) i))
+  heard_shared t i =
+      h.heard t (among_left t (txid_strings s.hash tx ++ shared_strings s.hash tx) inner (among_right t (txid_strings s.hash tx) (shared_strings s.hash tx) i))
 
   -- the script of an input, what it signs, and the hash of that
   pub record HeardInput (i : TxIn) (value : ℕ) : Type 0 where
@@ -166,7 +175,8 @@ module _ (s : Setup) (w : World) (hs : List (List ℕ)) (tx : Tx) (h : HeardAll 
     pub signed : is_among (preimage s.hash tx i (script_of i.witness) value) hs ≡ true
     pub signed_hash : is_among (s.hash (preimage s.hash tx i (script_of i.witness) value)) hs ≡ true
 
-  pub heard_input : (i : TxIn) (n : ℕ) → ((t : List ℕ) → is_among t (input_strings s.hash (live_from 0 w.outputs) tx i) ≡ true → is_among t inner ≡ true) → (sp : IsSpent s w tx n i) → HeardInput i sp.output.value
+  pub heard_input : (i : TxIn) (n : ℕ) → ((t : List ℕ) → is_among t (input_strings s.hash (live_from 0 w.outputs) tx i) ≡ true
+      → is_among t inner ≡ true) → (sp : IsSpent s w tx n i) → HeardInput i sp.output.value
   heard_input i n sub sp =
       let script = script_of i.witness in
       let m = preimage s.hash tx i script sp.output.value in
@@ -180,7 +190,8 @@ module _ (s : Setup) (w : World) (hs : List (List ℕ)) (tx : Tx) (h : HeardAll 
       }
 
 -- the strings of a later input are among those of all
-pub later_strings : (f : TxIn → List (List ℕ)) (i : TxIn) (is : List TxIn) (t : List ℕ) → is_among t (flat_map f is) ≡ true → is_among t (flat_map f (i ∷ is)) ≡ true
+pub later_strings : (f : TxIn → List (List ℕ)) (i : TxIn) (is : List TxIn) (t : List ℕ) → is_among t (flat_map f is) ≡ true
+    → is_among t (flat_map f (i ∷ is)) ≡ true
 later_strings f i is t h = subst (λ ts. is_among t ts ≡ true) (sym (flat_map-cons f i is)) (among_right t (f i) (flat_map f is) h)
 
 pub first_strings : (f : TxIn → List (List ℕ)) (i : TxIn) (is : List TxIn) (t : List ℕ) → is_among t (f i) ≡ true → is_among t (flat_map f (i ∷ is)) ≡ true

@@ -36,10 +36,10 @@ live-append k (x ∷ xs) ys =
     let ih = live-append (k + 1) xs ys ∙ ap (λ j. live_from (k + 1) xs ++ live_from j ys) e in
     by_live x.live (live_from (k + 1) (xs ++ ys)) (live_from (k + 1) xs) (live_from (k + suc (length xs)) ys) ih
   where
-    by_live : (b : Bool) (all front end : List Entry) → all ≡ front ++ end
-        → (if b then entry k x ∷ all else all) ≡ (if b then entry k x ∷ front else front) ++ end
-    by_live true all front end ih = ap (λ l. entry k x ∷ l) ih
-    by_live false all front end ih = ih
+    by_live : (b : Bool) (all prefix end : List Entry) → all ≡ prefix ++ end
+        → (if b then entry k x ∷ all else all) ≡ (if b then entry k x ∷ prefix else prefix) ++ end
+    by_live true all prefix end ih = ap (λ l. entry k x ∷ l) ih
+    by_live false all prefix end ih = ih
 
 pub live-made : (held : ℕ → Option ContractPosition) (id : List ℕ) (births k : ℕ) (os : List TxOut)
     → live_from (births + k) (made_from held id k os) ≡ born births id k os

@@ -75,7 +75,8 @@ outputs_refl [] = refl
 outputs_refl (x ∷ xs) = and_from _ _ (and_from _ _ (eq-eqb x.value x.value refl) (bytes_refl x.script)) (outputs_refl xs)
 
 pub bare_refl : (a : Tx) → same_bare a a ≡ true
-bare_refl a = and_from _ _ (and_from _ _ (and_from _ _ (eq-eqb a.version a.version refl) (inputs_refl a.inputs)) (outputs_refl a.outputs)) (eq-eqb a.lock a.lock refl)
+bare_refl a =
+    and_from _ _ (and_from _ _ (and_from _ _ (eq-eqb a.version a.version refl) (inputs_refl a.inputs)) (outputs_refl a.outputs)) (eq-eqb a.lock a.lock refl)
 
 -- witnesses aren't looked at
 inputs-bare : (xs ys : List TxIn) → pointwise same_input (map bare_input xs) (map bare_input ys) ≡ pointwise same_input xs ys
@@ -115,7 +116,8 @@ outputs-bare tx = refl
 pub preimage-bare : (hash : List ℕ → List ℕ) (tx : Tx) (i : TxIn) (s : List ℕ) (v : ℕ) → preimage hash (bare tx) (bare_input i) s v ≡ preimage hash tx i s v
 unfolding preimage
 preimage-bare hash tx i s v =
-    λ j. word tx.version ++ double hash (places-bare tx j) ++ double hash (sequences-bare tx j) ++ place_bytes i.prev ++ sized s ++ long_word v ++ word i.sequence ++ double hash (outputs-bare tx j) ++ word tx.lock ++ word 1
+    λ j. word tx.version ++ double hash (places-bare tx j) ++ double hash (sequences-bare tx j) ++ place_bytes i.prev ++ sized s
+    ++ long_word v ++ word i.sequence ++ double hash (outputs-bare tx j) ++ word tx.lock ++ word 1
 
 -- ---- one transaction of one id
 
@@ -141,7 +143,8 @@ inputs_size (i ∷ is) none places =
     let r = inputs_size is none.1 places.1 in
     omega (arith, a, b, r)
 
-input-apart : (x y : TxIn) → x.script_sig ≡ [] → y.script_sig ≡ [] → IsPlace x.prev → IsPlace y.prev → x.sequence < 2 ^ 32 → y.sequence < 2 ^ 32 → input_bytes x ≡ input_bytes y → bare_input x ≡ bare_input y
+input-apart : (x y : TxIn) → x.script_sig ≡ [] → y.script_sig ≡ [] → IsPlace x.prev → IsPlace y.prev → x.sequence < 2 ^ 32
+    → y.sequence < 2 ^ 32 → input_bytes x ≡ input_bytes y → bare_input x ≡ bare_input y
 input-apart x y nx ny px py sx sy e =
     let r = split_right (place_bytes x.prev ++ sized x.script_sig) (place_bytes y.prev ++ sized y.script_sig) (word x.sequence) (word y.sequence) (wide32.len x.sequence ∙ sym (wide32.len y.sequence)) e in
     let q = cut (place_bytes x.prev) (place_bytes y.prev) (sized x.script_sig) (sized y.script_sig) (place-size x.prev px ∙ sym (place-size y.prev py)) r.0 in
@@ -150,7 +153,8 @@ input-apart x y nx ny px py sx sy e =
     let c = nx ∙ sym ny in
     λ i. record { prev = a i; script_sig = c i; sequence = b i; witness = [] }
 
-inputs-apart : (xs ys : List TxIn) → NoScripts xs → NoScripts ys → AllPlaces xs → AllPlaces ys → AllSequences xs → AllSequences ys → length xs ≡ length ys → flat_map input_bytes xs ≡ flat_map input_bytes ys → map bare_input xs ≡ map bare_input ys
+inputs-apart : (xs ys : List TxIn) → NoScripts xs → NoScripts ys → AllPlaces xs → AllPlaces ys → AllSequences xs → AllSequences ys
+    → length xs ≡ length ys → flat_map input_bytes xs ≡ flat_map input_bytes ys → map bare_input xs ≡ map bare_input ys
 inputs-apart [] [] nx ny px py sx sy l e = refl
 inputs-apart [] (y ∷ ys) nx ny px py sx sy l e = absurd (omega (arith, l))
 inputs-apart (x ∷ xs) [] nx ny px py sx sy l e = absurd (omega (arith, l))
@@ -191,7 +195,8 @@ stripped-apart a b na nb fa fb e =
     let oa = outputs_size a.outputs fa.size in
     let ob = outputs_size b.outputs fb.size in
     let n : length a.inputs ≡ length b.inputs =
-    count-apart (length a.inputs) (length b.inputs) (length (outputs_bytes a.outputs)) (length (outputs_bytes b.outputs)) (flat_map input_bytes a.inputs ++ outputs_bytes a.outputs) (flat_map input_bytes b.inputs ++ outputs_bytes b.outputs) r2.1
+    count-apart (length a.inputs) (length b.inputs) (length (outputs_bytes a.outputs)) (length (outputs_bytes b.outputs))
+    (flat_map input_bytes a.inputs ++ outputs_bytes a.outputs) (flat_map input_bytes b.inputs ++ outputs_bytes b.outputs) r2.1
     (la ∙ ap (λ k. k + length (outputs_bytes a.outputs)) ia) (lb ∙ ap (λ k. k + length (outputs_bytes b.outputs)) ib) (omega (arith, oa)) (omega (arith, ob)) in
     let r3 = cut (compact (length a.inputs)) (compact (length b.inputs)) (flat_map input_bytes a.inputs ++ outputs_bytes a.outputs) (flat_map input_bytes b.inputs ++ outputs_bytes b.outputs) (ap (λ k. length (compact k)) n) r2.1 in
     let r4 = cut (flat_map input_bytes a.inputs) (flat_map input_bytes b.inputs) (outputs_bytes a.outputs) (outputs_bytes b.outputs) (ia ∙ ap (λ k. 41 * k) n ∙ sym ib) r3.1 in
@@ -218,7 +223,8 @@ inputless_apart a b none some e =
     some_count (length b.inputs) (outputs_bytes a.outputs) (flat_map input_bytes b.inputs ++ outputs_bytes b.outputs) some (sym (none_between a none) ∙ r2.1)
 
 -- where no script is given, what is signed the same is the same
-signed_inputs : (xs ys : List TxIn) → NoScripts xs → NoScripts ys → map (λ i. i.prev) xs ≡ map (λ i. i.prev) ys → map (λ i. i.sequence) xs ≡ map (λ i. i.sequence) ys → map bare_input xs ≡ map bare_input ys
+signed_inputs : (xs ys : List TxIn) → NoScripts xs → NoScripts ys → map (λ i. i.prev) xs ≡ map (λ i. i.prev) ys → map (λ i. i.sequence) xs
+    ≡ map (λ i. i.sequence) ys → map bare_input xs ≡ map bare_input ys
 signed_inputs [] [] h k e f = refl
 signed_inputs [] (y ∷ ys) h k e f = cc
 signed_inputs (x ∷ xs) [] h k e f = cc
@@ -261,7 +267,15 @@ pub bare_numbered : (a b : Tx) → bare a ≡ bare b → IsNumbered b → IsNumb
 bare_numbered a b e h =
     let bares : IsNumbered (bare b) = record { version = h.version; places = bare_places b.inputs h.places; sequences = bare_sequences b.inputs h.sequences; outputs = h.outputs; size = h.size; lock = h.lock } in
     let x = subst IsNumbered (sym e) bares in
-    record { version = x.version; places = full_places a.inputs x.places; sequences = full_sequences a.inputs x.sequences; outputs = x.outputs; size = x.size; lock = x.lock }
+    record {
+      version = x.version;
+      places = full_places a.inputs x.places;
+      sequences = full_sequences a.inputs
+          x.sequences;
+      outputs = x.outputs;
+      size = x.size;
+      lock = x.lock;
+    }
 
 -- ---- what is heard of one is heard of the other
 
@@ -279,5 +293,6 @@ bare_lists hash hs a b e h =
       outputs_hash = subst (λ t. is_among (hash t) hs ≡ true) o h.outputs_hash;
     }
 
-pub same_preimage : (hash : List ℕ → List ℕ) (a b : Tx) (i j : TxIn) (s : List ℕ) (v : ℕ) → bare a ≡ bare b → bare_input i ≡ bare_input j → preimage hash a i s v ≡ preimage hash b j s v
+pub same_preimage : (hash : List ℕ → List ℕ) (a b : Tx) (i j : TxIn) (s : List ℕ) (v : ℕ) → bare a ≡ bare b → bare_input i ≡ bare_input j
+    → preimage hash a i s v ≡ preimage hash b j s v
 same_preimage hash a b i j s v e f = sym (preimage-bare hash a i s v) ∙ (λ k. preimage hash (e k) (f k) s v) ∙ preimage-bare hash b j s v

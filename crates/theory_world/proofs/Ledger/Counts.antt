@@ -12,7 +12,8 @@ eight_left : (n : ℕ) → from_le_bytes w64 (to_le_bytes w64 n) + 2 ^ 64 * (n /
 eight_left n = omega arith
 
 -- a number in the width of its form
-width_apart : (w : Width) (limit : ℕ) → IsWide w limit → (b n m : ℕ) (c d x y : List ℕ) → c ≡ b ∷ to_le_bytes w n → d ≡ b ∷ to_le_bytes w m → c ++ x ≡ d ++ y → (to_le_bytes w n ≡ to_le_bytes w m) × (length x ≡ length y)
+width_apart : (w : Width) (limit : ℕ) → IsWide w limit → (b n m : ℕ) (c d x y : List ℕ) → c ≡ b ∷ to_le_bytes w n → d ≡ b ∷ to_le_bytes w m
+    → c ++ x ≡ d ++ y → (to_le_bytes w n ≡ to_le_bytes w m) × (length x ≡ length y)
 width_apart w limit wide b n m c d x y e f h =
     let l : length c ≡ length d = ap length e ∙ ap suc (wide.len n ∙ sym (wide.len m)) ∙ sym (ap length f) in
     let r = cut c d x y l h in
@@ -25,7 +26,8 @@ heads a b c d s t x y e f h =
     cc
 
 -- the counts before such parts are equal
-pub count-apart : (n m p q : ℕ) (x y : List ℕ) → compact n ++ x ≡ compact m ++ y → length x ≡ 41 * n + p → length y ≡ 41 * m + q → p < 2 ^ 34 → q < 2 ^ 34 → n ≡ m
+pub count-apart : (n m p q : ℕ) (x y : List ℕ) → compact n ++ x ≡ compact m ++ y → length x ≡ 41 * n + p → length y ≡ 41 * m + q
+    → p < 2 ^ 34 → q < 2 ^ 34 → n ≡ m
 count-apart n m p q x y h lx ly sp sq = by_forms (form_of n) (form_of m)
   where
     by_forms : Form n → Form m → n ≡ m
@@ -49,7 +51,8 @@ count-apart n m p q x y h lx ly sp sq = by_forms (form_of n) (form_of m)
         let u = eight_left n in
         let v = eight_left m in
         let t = ap (from_le_bytes w64) r.0 in
-        one_rest (from_le_bytes w64 (to_le_bytes w64 n)) (from_le_bytes w64 (to_le_bytes w64 m)) (n / 2 ^ 64) (m / 2 ^ 64) (length x) (length y) t u v r.1 refl refl
+        one_rest (from_le_bytes w64 (to_le_bytes w64 n)) (from_le_bytes w64 (to_le_bytes w64 m)) (n / 2 ^ 64) (m / 2 ^ 64) (length x)
+        (length y) t u v r.1 refl refl
       where
         one_rest : (a b i j k l : ℕ) → a ≡ b → a + 2 ^ 64 * i ≡ n → b + 2 ^ 64 * j ≡ m → k ≡ l → length x ≡ k → length y ≡ l → n ≡ m
         one_rest a b i j k l e f g o lk ll = omega (arith, e, f, g, o, lk, ll, lx, ly, sp, sq)

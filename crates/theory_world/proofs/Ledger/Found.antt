@@ -72,7 +72,8 @@ StandFor os [] (i ∷ is) = ⊥
 StandFor os (n ∷ ns) [] = ⊥
 
 -- what is found is live, and has its value
-one_found : (os : List Output) (place : OutPoint) (q : ℕ × TxOut) → IsFound os place 0 q → (stands (slice_get os q.0) place ≡ true) × (q.1.value ≡ value_or_zero (slice_get os q.0))
+one_found : (os : List Output) (place : OutPoint) (q : ℕ × TxOut) → IsFound os place 0 q → (stands (slice_get os q.0) place ≡ true)
+    × (q.1.value ≡ value_or_zero (slice_get os q.0))
 one_found os place q f =
     let e : q.0 ≡ f.number = let c = f.counted in omega arith in
     let there : slice_get os q.0 ≡ Some f.output = ap (slice_get os) e ∙ f.there in (
@@ -84,16 +85,19 @@ module _ (os : List Output) where
   abbrev live : List Entry
   live = live_from 0 os
 
-  input_stands : (i : TxIn) → is_some (at_place live i.prev) ≡ true → (stands (slice_get os (spent_number live i)) i.prev ≡ true) × (spent_value live i ≡ value_or_zero (slice_get os (spent_number live i)))
+  input_stands : (i : TxIn) → is_some (at_place live i.prev) ≡ true → (stands (slice_get os (spent_number live i)) i.prev ≡ true)
+      × (spent_value live i ≡ value_or_zero (slice_get os (spent_number live i)))
   input_stands i h = by_entry (at_place live i.prev) refl h
     where
       by_entry : (r : Option (ℕ × TxOut)) → at_place live i.prev ≡ r → is_some r ≡ true
-          → (stands (slice_get os (option_map_or (λ p. p.0) r 0)) i.prev ≡ true) × (option_map_or (λ p. p.1.value) r 0 ≡ value_or_zero (slice_get os (option_map_or (λ p. p.0) r 0)))
+          → (stands (slice_get os (option_map_or (λ p. p.0) r 0)) i.prev ≡ true)
+          × (option_map_or (λ p. p.1.value) r 0 ≡ value_or_zero (slice_get os (option_map_or (λ p. p.0) r 0)))
       by_entry None e x = cc
       by_entry (Some q) e x = one_found os i.prev q (found os i.prev 0 q e)
 
   -- where no input is missing, each is there
-  pub none_missing : (k : ℕ) (is : List TxIn) → position_from (λ i. not (is_some (at_place live i.prev))) k is ≡ None → list_all (λ i. is_some (at_place live i.prev)) is ≡ true
+  pub none_missing : (k : ℕ) (is : List TxIn) → position_from (λ i. not (is_some (at_place live i.prev))) k is ≡ None
+      → list_all (λ i. is_some (at_place live i.prev)) is ≡ true
   none_missing k [] h = refl
   none_missing k (i ∷ is) h = by_test (is_some (at_place live i.prev)) h (none_missing (k + 1) is)
     where
@@ -130,7 +134,8 @@ one_place (Some o) p q h k =
     let b = and_parts o.live (same_outpoint q o.outpoint) k in
     place-true p o.outpoint a.1 ∙ sym (place-true q o.outpoint b.1)
 
-stand_for-new : (os : List Output) (n : ℕ) (i : TxIn) (ns : List ℕ) (is : List TxIn) → StandFor os ns is → stands (slice_get os n) i.prev ≡ true → list_any (λ j. same_outpoint j.prev i.prev) is ≡ false → has_number n ns ≡ false
+stand_for-new : (os : List Output) (n : ℕ) (i : TxIn) (ns : List ℕ) (is : List TxIn) → StandFor os ns is → stands (slice_get os n) i.prev
+    ≡ true → list_any (λ j. same_outpoint j.prev i.prev) is ≡ false → has_number n ns ≡ false
 stand_for-new os n i [] is h a b = refl
 stand_for-new os n i (m ∷ ns) [] h a b = absurd h
 stand_for-new os n i (m ∷ ns) (j ∷ is) h a b =

@@ -42,14 +42,17 @@ module _ {X : Type 0} (f : ℕ → Output → Option X) where
 
   -- each is seen under its number, and nothing of what is spent
   module _ (name : X → ℕ) (named : (k : ℕ) (o : Output) (x : X) → f k o ≡ Some x → name x ≡ k) (dead : (k : ℕ) (o : Output) → f k (record o { live = false }) ≡ None) where
-    pub seen-spent : (k : ℕ) (ns : List ℕ) (os : List Output) → seen_from f k (spend_from k ns os) ≡ filter (λ x. not (has_number (name x) ns)) (seen_from f k os)
+    pub seen-spent : (k : ℕ) (ns : List ℕ) (os : List Output) → seen_from f k (spend_from k ns os)
+        ≡ filter (λ x. not (has_number (name x) ns)) (seen_from f k os)
     seen-spent k ns [] = refl
     seen-spent k ns (o ∷ os) =
         let d = dead k o in
         by_seen (f k o) refl (seen-spent (k + 1) ns os)
       where
-        by_seen : (s : Option X) → f k o ≡ s → seen_from f (k + 1) (spend_from (k + 1) ns os) ≡ filter (λ x. not (has_number (name x) ns)) (seen_from f (k + 1) os)
-            → cons_option (f k (if has_number k ns then record o { live = false } else o)) (seen_from f (k + 1) (spend_from (k + 1) ns os)) ≡ filter (λ x. not (has_number (name x) ns)) (cons_option s (seen_from f (k + 1) os))
+        by_seen : (s : Option X) → f k o ≡ s → seen_from f (k + 1) (spend_from (k + 1) ns os)
+            ≡ filter (λ x. not (has_number (name x) ns)) (seen_from f (k + 1) os)
+            → cons_option (f k (if has_number k ns then record o { live = false } else o)) (seen_from f (k + 1) (spend_from (k + 1) ns os))
+            ≡ filter (λ x. not (has_number (name x) ns)) (cons_option s (seen_from f (k + 1) os))
         by_seen None e ih = let d = dead k o in grind (arith, e, d, ih)
         by_seen (Some x) e ih = let d = dead k o in let n = named k o x e in grind (arith, e, d, n, ih)
 
@@ -57,7 +60,8 @@ module _ {X : Type 0} (f : ℕ → Output → Option X) where
     seen-below k n [] h = refl
     seen-below k n (o ∷ os) h = by_seen (f k o) refl (seen-below (k + 1) n os (omega arith))
       where
-        by_seen : (s : Option X) → f k o ≡ s → find (λ x. name x == n) (seen_from f (k + 1) os) ≡ None → find (λ x. name x == n) (cons_option s (seen_from f (k + 1) os)) ≡ None
+        by_seen : (s : Option X) → f k o ≡ s → find (λ x. name x == n) (seen_from f (k + 1) os) ≡ None
+            → find (λ x. name x == n) (cons_option s (seen_from f (k + 1) os)) ≡ None
         by_seen None e ih = ih
         by_seen (Some x) e ih = let m = named k o x e in grind (arith, nat_tests, m, ih)
 
@@ -65,7 +69,8 @@ module _ {X : Type 0} (f : ℕ → Output → Option X) where
     seen-at k n [] = refl
     seen-at k zero (o ∷ os) = by_seen (f k o) refl (seen-below (k + 1) (0 + k) os (omega arith))
       where
-        by_seen : (s : Option X) → f k o ≡ s → find (λ x. name x == 0 + k) (seen_from f (k + 1) os) ≡ None → find (λ x. name x == 0 + k) (cons_option s (seen_from f (k + 1) os)) ≡ f (0 + k) o
+        by_seen : (s : Option X) → f k o ≡ s → find (λ x. name x == 0 + k) (seen_from f (k + 1) os) ≡ None
+            → find (λ x. name x == 0 + k) (cons_option s (seen_from f (k + 1) os)) ≡ f (0 + k) o
         by_seen None e ih = let z : 0 + k ≡ k = omega arith in rw z (rw z at ih ∙ sym e)
         by_seen (Some x) e ih = let m = named k o x e in let z : 0 + k ≡ k = omega arith in rw (z, m, eq-eqb k k refl) (sym e)
     seen-at k (suc n) (o ∷ os) =
@@ -73,7 +78,9 @@ module _ {X : Type 0} (f : ℕ → Output → Option X) where
         let ih = rw z at (seen-at (k + 1) n os) in
         by_seen (f k o) refl ih
       where
-        by_seen : (s : Option X) → f k o ≡ s → find (λ x. name x == suc n + k) (seen_from f (k + 1) os) ≡ option_and_then (f (suc n + k)) (slice_get os n) → find (λ x. name x == suc n + k) (cons_option s (seen_from f (k + 1) os)) ≡ option_and_then (f (suc n + k)) (slice_get os n)
+        by_seen : (s : Option X) → f k o ≡ s → find (λ x. name x == suc n + k) (seen_from f (k + 1) os)
+            ≡ option_and_then (f (suc n + k)) (slice_get os n) → find (λ x. name x == suc n + k) (cons_option s (seen_from f (k + 1) os))
+            ≡ option_and_then (f (suc n + k)) (slice_get os n)
         by_seen None e ih = ih
         by_seen (Some x) e ih = let m = named k o x e in let t : (name x == suc n + k) ≡ false = rw m (ne_eqb k (suc n + k) (λ q. omega arith)) in rw t ih
 
@@ -103,7 +110,8 @@ actives-append k xs ys = seen-append active_in k xs ys
 pub deposits-spent : (s : Setup) (k : ℕ) (ns : List ℕ) (os : List Output) → deposits_from s k (spend_from k ns os) ≡ kept (deposits_from s k os) ns
 deposits-spent s k ns os = seen-spent (deposit_in s) (λ d. d.number) (deposit-named s) (λ j o. refl) k ns os
 
-pub actives-spent : (k : ℕ) (ns : List ℕ) (os : List Output) → actives_from k (spend_from k ns os) ≡ filter (λ x. not (has_number x.number ns)) (actives_from k os)
+pub actives-spent : (k : ℕ) (ns : List ℕ) (os : List Output) → actives_from k (spend_from k ns os)
+    ≡ filter (λ x. not (has_number x.number ns)) (actives_from k os)
 actives-spent k ns os = seen-spent active_in (λ x. x.number) active-named (λ j o. refl) k ns os
 
 abbrev pub nothing_held : ℕ → Option ContractPosition

@@ -14,7 +14,7 @@ use Rattle.theory_bitcoin.proofs.Formats.{wide32, wide64}
 use Rattle.theory_bitcoin.specs.Places.{AllPlaces}
 use Rattle.theory_bitcoin.proofs.Apart.{cut, all_places, all_outputs, inputs_places, number_once, places}
 use Rattle.spec_run.specs.Conditions.{HashesBytes}
-use Rattle.theory_world.specs.KeptApart.{NoClash}
+use Rattle.theory_world.specs.KeptApart.{NoCollision}
 use Rattle.theory_world.proofs.Hashed.{among_left, among_right, among_head, among_tail}
 use Rattle.theory_world.specs.Transactions.{AllSequences, IsNumbered, HeardLists}
 
@@ -41,7 +41,8 @@ place-apart p q h k e = (places p q [] [] h k (ap (λ t. t ++ []) e)).0
 abbrev sequence_text : TxIn → List ℕ
 sequence_text i = word i.sequence
 
-pub sequences-apart : (xs ys : List TxIn) → AllSequences xs → AllSequences ys → flat_map sequence_text xs ≡ flat_map sequence_text ys → map (λ i. i.sequence) xs ≡ map (λ i. i.sequence) ys
+pub sequences-apart : (xs ys : List TxIn) → AllSequences xs → AllSequences ys → flat_map sequence_text xs ≡ flat_map sequence_text ys
+    → map (λ i. i.sequence) xs ≡ map (λ i. i.sequence) ys
 sequences-apart [] [] h k e = refl
 sequences-apart [] (y ∷ ys) h k e =
     let n = ap length (e ∙ flat_map-cons sequence_text y ys) ∙ length-append (sequence_text y) (flat_map sequence_text ys) in
@@ -76,7 +77,15 @@ pub numbered_few : (tx : Tx) → IsNumbered tx → length tx.outputs ≤ 2 ^ 32
 numbered_few tx h = let a = few_outputs tx.outputs in let b = h.size in omega (arith, a, b)
 
 pub numbered : (tx : Tx) → IsTransaction tx → length (flat_map output_bytes tx.outputs) < 2 ^ 32 → IsNumbered tx
-numbered tx h size = record { version = h.version; places = inputs_places tx.inputs h.inputs; sequences = inputs_sequences tx.inputs h.inputs; outputs = h.outputs; size = size; lock = h.lock }
+numbered tx h size = record {
+  version = h.version;
+  places = inputs_places tx.inputs h.inputs;
+  sequences = inputs_sequences tx.inputs
+      h.inputs;
+  outputs = h.outputs;
+  size = size;
+  lock = h.lock;
+}
 
 -- ---- what is signed
 
@@ -88,26 +97,31 @@ pub record SameSigned (a b : Tx) : Type 0 where
   pub outputs : a.outputs ≡ b.outputs
   pub lock : a.lock ≡ b.lock
 
-pub heard_lists : (hash : List ℕ → List ℕ) (hs : List (List ℕ)) (tx : Tx) → ((t : List ℕ) → is_among t (shared_strings hash tx) ≡ true → is_among t hs ≡ true) → HeardLists hash hs tx
+pub heard_lists : (hash : List ℕ → List ℕ) (hs : List (List ℕ)) (tx : Tx)
+    → ((t : List ℕ) → is_among t (shared_strings hash tx) ≡ true → is_among t hs ≡ true) → HeardLists hash hs tx
 heard_lists hash hs tx h =
     let p = places_list tx in
     let q = sequences_list tx in
     let o = outputs_list tx in
-    let front : List (List ℕ) = (p ∷ hash p ∷ []) ++ (q ∷ hash q ∷ []) in
+    let prefix : List (List ℕ) = (p ∷ hash p ∷ []) ++ (q ∷ hash q ∷ []) in
     let last : List (List ℕ) = o ∷ hash o ∷ [] in
     record {
-      places = h p (among_left p front last (among_left p (p ∷ hash p ∷ []) (q ∷ hash q ∷ []) (among_head p (hash p ∷ []))));
-      places_hash = h (hash p) (among_left (hash p) front last (among_left (hash p) (p ∷ hash p ∷ []) (q ∷ hash q ∷ []) (among_tail (hash p) p (hash p ∷ []) (among_head (hash p) []))));
-      sequences = h q (among_left q front last (among_right q (p ∷ hash p ∷ []) (q ∷ hash q ∷ []) (among_head q (hash q ∷ []))));
-      sequences_hash = h (hash q) (among_left (hash q) front last (among_right (hash q) (p ∷ hash p ∷ []) (q ∷ hash q ∷ []) (among_tail (hash q) q (hash q ∷ []) (among_head (hash q) []))));
-      outputs = h o (among_right o front last (among_head o (hash o ∷ [])));
-      outputs_hash = h (hash o) (among_right (hash o) front last (among_tail (hash o) o (hash o ∷ []) (among_head (hash o) [])));
+      places = h p (among_left p prefix last (among_left p (p ∷ hash p ∷ []) (q ∷ hash q ∷ []) (among_head p (hash p ∷ []))));
+      places_hash = h (hash p) (among_left (hash p) prefix last
+          (among_left (hash p) (p ∷ hash p ∷ []) (q ∷ hash q ∷ []) (among_tail (hash p) p (hash p ∷ []) (among_head (hash p) []))));
+      sequences = h q (among_left q prefix last (among_right q (p ∷ hash p ∷ []) (q ∷ hash q ∷ []) (among_head q (hash q ∷ []))));
+      sequences_hash = h (hash q) (among_left (hash q) prefix last
+          (among_right (hash q) (p ∷ hash p ∷ []) (q ∷ hash q ∷ []) (among_tail (hash q) q (hash q ∷ []) (among_head (hash q) []))));
+      outputs = h o (among_right o prefix last (among_head o (hash o ∷ [])));
+      outputs_hash = h (hash o) (among_right (hash o) prefix last (among_tail (hash o) o (hash o ∷ []) (among_head (hash o) [])));
     }
 
-pub double-apart : (hash : List ℕ → List ℕ) (hs : List (List ℕ)) → NoClash hash hs → (t u : List ℕ) → is_among t hs ≡ true → is_among (hash t) hs ≡ true → is_among u hs ≡ true → is_among (hash u) hs ≡ true → double hash t ≡ double hash u → t ≡ u
+pub double-apart : (hash : List ℕ → List ℕ) (hs : List (List ℕ)) → NoCollision hash hs → (t u : List ℕ) → is_among t hs ≡ true
+    → is_among (hash t) hs ≡ true → is_among u hs ≡ true → is_among (hash u) hs ≡ true → double hash t ≡ double hash u → t ≡ u
 double-apart hash hs clear t u h h' k k' e = clear.one t u h k (clear.one (hash t) (hash u) h' k' e)
 
-pub preimage-apart : (hash : List ℕ → List ℕ) → HashesBytes hash → (hs : List (List ℕ)) → NoClash hash hs → (a b : Tx) → IsNumbered a → IsNumbered b → HeardLists hash hs a → HeardLists hash hs b
+pub preimage-apart : (hash : List ℕ → List ℕ) → HashesBytes hash → (hs : List (List ℕ)) → NoCollision hash hs → (a b : Tx) → IsNumbered a
+    → IsNumbered b → HeardLists hash hs a → HeardLists hash hs b
     → (i j : TxIn) → IsPlace i.prev → IsPlace j.prev → (s t : List ℕ) (v u : ℕ) → preimage hash a i s v ≡ preimage hash b j t u → SameSigned a b
 unfolding preimage places_list sequences_list outputs_list
 preimage-apart hash size hs clear a b fa fb ha hb i j pi pj s t v u e =
@@ -117,8 +131,8 @@ preimage-apart hash size hs clear a b fa fb ha hb i j pi pj s t v u e =
     let r3 = split_right _ _ (double hash (outputs_list a)) (double hash (outputs_list b)) (d (outputs_list a) (outputs_list b)) r2.0 in
     let r4 = split_right _ _ (word i.sequence) (word j.sequence) (wide32.len i.sequence ∙ sym (wide32.len j.sequence)) r3.0 in
     let r5 = split_right _ _ (long_word v) (long_word u) (wide64.len v ∙ sym (wide64.len u)) r4.0 in
-    let front : Tx → TxIn → List ℕ = λ tx k. word tx.version ++ double hash (places_list tx) ++ double hash (sequences_list tx) ++ place_bytes k.prev in
-    let len : (tx : Tx) (k : TxIn) → IsPlace k.prev → length (front tx k) ≡ 104 = λ tx k p.
+    let prefix : Tx → TxIn → List ℕ = λ tx k. word tx.version ++ double hash (places_list tx) ++ double hash (sequences_list tx) ++ place_bytes k.prev in
+    let len : (tx : Tx) (k : TxIn) → IsPlace k.prev → length (prefix tx k) ≡ 104 = λ tx k p.
     let l1 = length-append (word tx.version ++ double hash (places_list tx) ++ double hash (sequences_list tx)) (place_bytes k.prev) in
     let l2 = length-append (word tx.version ++ double hash (places_list tx)) (double hash (sequences_list tx)) in
     let l3 = length-append (word tx.version) (double hash (places_list tx)) in
@@ -127,7 +141,7 @@ preimage-apart hash size hs clear a b fa fb ha hb i j pi pj s t v u e =
     let m3 = size.size (hash (places_list tx)) in
     let m4 = wide32.len tx.version in
     omega (arith, l1, l2, l3, m1, m2, m3, m4) in
-    let r6 = cut (front a i) (front b j) (sized s) (sized t) (len a i pi ∙ sym (len b j pj)) r5.0 in
+    let r6 = cut (prefix a i) (prefix b j) (sized s) (sized t) (len a i pi ∙ sym (len b j pj)) r5.0 in
     let r7 = split_right _ _ (place_bytes i.prev) (place_bytes j.prev) (place-size i.prev pi ∙ sym (place-size j.prev pj)) r6.0 in
     let r8 = split_right _ _ (double hash (sequences_list a)) (double hash (sequences_list b)) (d (sequences_list a) (sequences_list b)) r7.0 in
     let r9 = split_right (word a.version) (word b.version) (double hash (places_list a)) (double hash (places_list b)) (d (places_list a) (places_list b)) r8.0 in

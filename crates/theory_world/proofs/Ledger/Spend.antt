@@ -61,7 +61,8 @@ all_funded-some None place h = cc
 all_funded-some (Some o) place h = (o, refl, (and_parts o.live _ h).0)
 
 -- spending different live outputs takes their values
-pub spend-all : (os : List Output) (ns : List ℕ) (is : List TxIn) → StandFor os ns is → are_distinct ns ≡ true → total_live (spend_from 0 ns os) + values_at os ns ≡ total_live os
+pub spend-all : (os : List Output) (ns : List ℕ) (is : List TxIn) → StandFor os ns is → are_distinct ns ≡ true
+    → total_live (spend_from 0 ns os) + values_at os ns ≡ total_live os
 spend-all os [] is h d = rw (spend-none 0 os) (omega arith)
 spend-all os (n ∷ ns) [] h d = absurd h
 spend-all os (n ∷ ns) (i ∷ is) h d =

@@ -19,7 +19,7 @@ use Rattle.spec_run.specs.declared.outcome.Reason.{Reason}
 use Rattle.spec_run.specs.Setup.{Setup}
 use Rattle.spec_data.specs.Messages.{collision}
 use Rattle.spec_run.specs.World.{World, live_position_at}
-use Rattle.spec_run.specs.Draft.{Draft, unless, settle, guess}
+use Rattle.spec_run.specs.Pending.{Pending, unless, apply, guess}
 use Rattle.spec_run.specs.Values.{total_live, live_value, KeepsValue, ValueKept}
 use Rattle.spec_run.specs.Compiled.{compiled_instance}
 use Rattle.spec_run.specs.Advertising.{advertise_row}
@@ -29,7 +29,7 @@ use Rattle.spec_run.specs.Revealing.{reveal_row}
 use Rattle.spec_run.specs.Giving.{give_row, given_pairs, gift}
 use Rattle.spec_run.specs.Firing.{fire_init_row, fire_row, reaches_if, initial_by, taking_of_position}
 use Rattle.spec_run.specs.Ledger.{chain_of, live_from, verdict_in, spend_from, made_from, new_position, kind_of, judged, reaches}
-use Rattle.spec_run.specs.Event.{append_read, mine_row, draft, event}
+use Rattle.spec_run.specs.Event.{append_read, mine_row, pending, event}
 use Rattle.theory_world.proofs.Ledger.Found.{StandFor, stand_for, stand_for-distinct, none_missing, spent_values, values_at}
 use Rattle.theory_world.proofs.Ledger.Spend.{total-append, total-made, spend-all}
 
@@ -78,10 +78,10 @@ balanced s w tx spent a =
     is_none None h = refl
     is_none (Some n) h = cc
 
--- ---- drafts
+-- ---- pending effects
 
-abbrev pub DraftKeeps : World → Draft → Type 0
-DraftKeeps w d = KeepsValue w d.outcome d.world
+abbrev pub PendingKeeps : World → Pending → Type 0
+PendingKeeps w d = KeepsValue w d.outcome d.world
 
 -- the outputs are as they were
 same_value : (w : World) (outcome : Outcome) (next : World) → next.outputs ≡ w.outputs → KeepsValue w outcome next
@@ -89,11 +89,12 @@ same_value w outcome next o =
     let v : live_value next ≡ live_value w = ap total_live o in
     record { no_more = omega (arith, v); the_same = λ x. v }
 
-unless_keeps : (w : World) (r : Option Reason) (hashes : List (List ℕ)) (d : Draft) → DraftKeeps w d → DraftKeeps w (unless r w hashes d)
+unless_keeps : (w : World) (r : Option Reason) (hashes : List (List ℕ)) (d : Pending) → PendingKeeps w d → PendingKeeps w (unless r w hashes d)
 unless_keeps w None hashes d h = h
 unless_keeps w (Some r) hashes d h = same_value w _ w refl
 
-judged_keeps : (s : Setup) (w signed : World) (tx : Tx) (v : Verdict) → signed.outputs ≡ w.outputs → verdict_in s signed tx ≡ v → DraftKeeps w (judged s w signed tx v)
+judged_keeps : (s : Setup) (w signed : World) (tx : Tx) (v : Verdict) → signed.outputs ≡ w.outputs → verdict_in s signed tx ≡ v
+    → PendingKeeps w (judged s w signed tx v)
 judged_keeps s w signed tx (verdicts.Refused r) o e = same_value w _ w refl
 judged_keeps s w signed tx (verdicts.Accepted spent made) o e =
     let b = balanced s signed tx spent (accepted_by s signed tx spent made e) in
@@ -105,46 +106,46 @@ judged_keeps s w signed tx (verdicts.Accepted spent made) o e =
     let f = b.enough in
     record { no_more = omega (arith, a, m, t, v, f); the_same = λ x. cc }
 
-reaches_keeps : (s : Setup) (w signed : World) (tx : Tx) → signed.outputs ≡ w.outputs → DraftKeeps w (reaches s w signed tx)
+reaches_keeps : (s : Setup) (w signed : World) (tx : Tx) → signed.outputs ≡ w.outputs → PendingKeeps w (reaches s w signed tx)
 reaches_keeps s w signed tx o = judged_keeps s w signed tx (verdict_in s signed tx) o refl
 
-reaches_if_keeps : (s : Setup) (w : World) (tx : Option Tx) → DraftKeeps w (reaches_if s w tx)
+reaches_if_keeps : (s : Setup) (w : World) (tx : Option Tx) → PendingKeeps w (reaches_if s w tx)
 reaches_if_keeps s w None = same_value w _ w refl
 reaches_if_keeps s w (Some tx) = reaches_keeps s w w tx refl
 
-append_keeps : (s : Setup) (w : World) (r : Result Tx ℕ) → DraftKeeps w (append_read s w r)
+append_keeps : (s : Setup) (w : World) (r : Result Tx ℕ) → PendingKeeps w (append_read s w r)
 append_keeps s w (Ok tx) = reaches_keeps s w w tx refl
 append_keeps s w (Err place) = same_value w _ w refl
 
-pub draft_keeps : (s : Setup) (w : World) (e : Event) → DraftKeeps w (draft s w e)
-draft_keeps s w (events.Advertise contract bindings) = unless_keeps w (first_reason (advertise_row s w contract bindings)) [] _ (same_value w _ _ refl)
-draft_keeps s w (events.Commit contract party digests) =
+pub pending_keeps : (s : Setup) (w : World) (e : Event) → PendingKeeps w (pending s w e)
+pending_keeps s w (events.Advertise contract bindings) = unless_keeps w (first_reason (advertise_row s w contract bindings)) [] _ (same_value w _ _ refl)
+pending_keeps s w (events.Commit contract party digests) =
     unless_keeps w (first_reason (commit_row s w contract party digests)) [] _
     (unless_keeps w (first_reason (digest_row s w contract party digests)) (committed_strings s contract party) _ (same_value w _ _ refl))
-draft_keeps s w (events.Endorse contract party) = unless_keeps w (first_reason (endorse_row s w contract party)) [] _ (same_value w _ _ refl)
-draft_keeps s w (events.Init contract party) = unless_keeps w (first_reason (init_row s w contract party)) [] _ (same_value w _ _ refl)
-draft_keeps s w (events.Authorise party output branch) = unless_keeps w (first_reason (authorise_row s w party output branch)) [] _ (same_value w _ _ refl)
-draft_keeps s w (events.Reveal contract party secret) = unless_keeps w (first_reason (reveal_row s w contract party secret)) [] _ (same_value w _ _ refl)
-draft_keeps s w (events.Post bytes) = same_value w _ w refl
-draft_keeps s w (events.Sign party label digest) = unless_keeps w (first_reason (sign_row s party label)) [] _ (same_value w _ _ refl)
-draft_keeps s w (events.Give party inputs outputs) =
+pending_keeps s w (events.Endorse contract party) = unless_keeps w (first_reason (endorse_row s w contract party)) [] _ (same_value w _ _ refl)
+pending_keeps s w (events.Init contract party) = unless_keeps w (first_reason (init_row s w contract party)) [] _ (same_value w _ _ refl)
+pending_keeps s w (events.Authorise party output branch) = unless_keeps w (first_reason (authorise_row s w party output branch)) [] _ (same_value w _ _ refl)
+pending_keeps s w (events.Reveal contract party secret) = unless_keeps w (first_reason (reveal_row s w contract party secret)) [] _ (same_value w _ _ refl)
+pending_keeps s w (events.Post bytes) = same_value w _ w refl
+pending_keeps s w (events.Sign party label digest) = unless_keeps w (first_reason (sign_row s party label)) [] _ (same_value w _ _ refl)
+pending_keeps s w (events.Give party inputs outputs) =
     unless_keeps w (first_reason (give_row s w party inputs outputs)) [] _
     (reaches_keeps s w (with_pairs w (given_pairs s w party inputs outputs)) (gift s w party inputs outputs) refl)
-draft_keeps s w (events.Append bytes) = append_keeps s w (transaction_of bytes)
-draft_keeps s w (events.FireInit contract) =
+pending_keeps s w (events.Append bytes) = append_keeps s w (transaction_of bytes)
+pending_keeps s w (events.FireInit contract) =
     unless_keeps w (first_reason (fire_init_row s w contract)) [] _ (reaches_if_keeps s w (initial_by s (compiled_instance s w contract)))
-draft_keeps s w (events.Fire output branch) =
+pending_keeps s w (events.Fire output branch) =
     unless_keeps w (first_reason (fire_row s w output branch)) [] _ (reaches_if_keeps s w (taking_of_position s w (live_position_at w output) branch))
-draft_keeps s w (events.Mine blocks) = unless_keeps w (first_reason (mine_row w blocks)) [] _ (same_value w _ _ refl)
+pending_keeps s w (events.Mine blocks) = unless_keeps w (first_reason (mine_row w blocks)) [] _ (same_value w _ _ refl)
 
 -- ---- events
 
-settled_keeps : (w : World) (d : Draft) → DraftKeeps w d → (c : Option (List ℕ × List ℕ)) (g : Option HeldSecret) → ValueKept w (settle w d c g)
-settled_keeps w d h (Some pair) g = tt
-settled_keeps w d h None (Some held) = tt
-settled_keeps w d h None None = record { no_more = h.no_more; the_same = h.the_same }
+applied_keeps : (w : World) (d : Pending) → PendingKeeps w d → (c : Option (List ℕ × List ℕ)) (g : Option HeldSecret) → ValueKept w (apply w d c g)
+applied_keeps w d h (Some pair) g = tt
+applied_keeps w d h None (Some held) = tt
+applied_keeps w d h None None = record { no_more = h.no_more; the_same = h.the_same }
 
 pub values_keep : (s : Setup) (w : World) (e : Event) → ValueKept w (event s w e)
 values_keep s w e =
-    let d = draft s w e in
-    settled_keeps w d (draft_keeps s w e) (collision s.hash w.hashed d.hashes) (guess s w.posted d.posts d.allowed)
+    let d = pending s w e in
+    applied_keeps w d (pending_keeps s w e) (collision s.hash w.hashed d.hashes) (guess s w.posted d.posts d.allowed)

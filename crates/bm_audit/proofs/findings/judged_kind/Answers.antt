@@ -1,6 +1,6 @@
 use Rattle.std.proofs.Common.{refl}
 use Rattle.bm_world.specs.declared.halt.Halt.TheVariants.{Memory}
-use Rattle.bm_world_heard.proofs.Hearing.{wanting}
+use Rattle.bm_world_heard.proofs.Hearing.{outstanding}
 use Rattle.bm_audit.proofs.Composed.{hears_judged, refusal_there, reads_by}
 use Rattle.bm_audit.proofs.findings.judged_kind.Goals as goal
 
@@ -16,6 +16,6 @@ returns-in-Ok-clause-read g c =
 
 pub returns-in-Err-clause-stopped : goal.returns-in-Err-clause-stopped
 returns-in-Err-clause-stopped g c =
-    wanting g.H.Hash32.digest_of c.args.world.now c.ask.new.world _ _ Memory
+    outstanding g.H.Hash32.digest_of c.args.world.now c.ask.new.world _ _ Memory
     (hears_judged g.H.Hash32.digest_of c.args.world.now c.ask.new.world c.args.catalog.now c.args.tx.now c.in_ok-refusal.refusal
     c.in_ok-refusal.ensures.judged) refl

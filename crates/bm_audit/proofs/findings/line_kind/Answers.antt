@@ -5,7 +5,7 @@ use Rattle.bm_world.specs.Playing.{setup_in}
 use Rattle.bm_world.specs.declared.halt.Halt.TheVariants.{Memory}
 use Rattle.bm_world_heard.specs.Heard.{Stopped}
 use Rattle.bm_audit.specs.Found.{Takes, given_strings}
-use Rattle.bm_world_heard.proofs.Hearing.{hears_none, wanting}
+use Rattle.bm_world_heard.proofs.Hearing.{hears_none, outstanding}
 use Rattle.bm_audit.proofs.findings.line_kind.Goals as goal
 
 pub returns-in-Ok-clause-took : goal.returns-in-Ok-clause-took
@@ -21,4 +21,4 @@ returns-in-Ok-clause-stopped g c =
 
 pub returns-in-Err-clause-stopped : goal.returns-in-Err-clause-stopped
 returns-in-Err-clause-stopped g c =
-    wanting g.H.Hash32.digest_of c.args.world.now c.args.world.now _ _ Memory (hears_none g.H.Hash32.digest_of c.args.world.now) refl
+    outstanding g.H.Hash32.digest_of c.args.world.now c.args.world.now _ _ Memory (hears_none g.H.Hash32.digest_of c.args.world.now) refl

@@ -2,7 +2,7 @@ use Rattle.std.proofs.Common.{Option, [], ◌++◌, refl, ap, ◌∙◌}
 use Rattle.spec_tool.specs.declared.finding.Kind.{Kind}
 use Rattle.bm_world.specs.declared.halt.Halt.TheVariants.{Memory}
 use Rattle.bm_audit.specs.Found.{onto_found}
-use Rattle.bm_world_heard.proofs.Hearing.{wanting}
+use Rattle.bm_world_heard.proofs.Hearing.{outstanding}
 use Rattle.bm_audit.proofs.findings.take_line.Goals as goal
 
 pub returns-in-Ok-clause-took : goal.returns-in-Ok-clause-took
@@ -15,4 +15,4 @@ returns-in-Ok-clause-took g c = record {
 
 pub returns-in-Err-clause-stopped : goal.returns-in-Err-clause-stopped
 returns-in-Err-clause-stopped g c =
-    wanting g.H.Hash32.digest_of c.args.world.now c.line_kind.new.world _ _ Memory c.in_ok-kind.ensures.took.calm.hears refl
+    outstanding g.H.Hash32.digest_of c.args.world.now c.line_kind.new.world _ _ Memory c.in_ok-kind.ensures.took.calm.hears refl

@@ -4,7 +4,7 @@ use Rattle.spec_run.specs.World.{World}
 use Rattle.spec_bitcoin.specs.Verdict.{spent_number}
 use Rattle.spec_tool.specs.declared.finding.Now.TheVariants as nows
 use Rattle.bm_match.specs.Matches.{all_compiled}
-use Rattle.bm_world_board.specs.Drafts.{setup_of, world_of}
+use Rattle.bm_world_board.specs.Prepares.{setup_of, world_of}
 use Rattle.bm_world.specs.Playing.{setup_in}
 use Rattle.bm_audit.proofs.Listing.{few_compiled}
 use Rattle.bm_audit.proofs.Saying.{now_accepted, now_spending}

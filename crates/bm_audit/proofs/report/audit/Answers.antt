@@ -3,7 +3,7 @@ use Rattle.std.proofs.lemmas.Result.{err_from_is_err_and}
 use Rattle.bm_world.specs.Playing.{setup_in}
 use Rattle.bm_world.specs.declared.halt.Halt.TheVariants.{Memory}
 use Rattle.bm_audit_listed.specs.Parts.{absent_among}
-use Rattle.bm_world_heard.proofs.Hearing.{hears_none, halted_before, wanting}
+use Rattle.bm_world_heard.proofs.Hearing.{hears_none, halted_before, outstanding}
 use Rattle.bm_audit.proofs.Listing.{audited_by, follows_from}
 use Rattle.bm_audit.proofs.report.audit.Goals as goal
 
@@ -14,16 +14,16 @@ returns-in-Some-clause-stopped g c =
 pub returns-in_err-catalog-clause-stopped : goal.returns-in_err-catalog-clause-stopped
 returns-in_err-catalog-clause-stopped g c =
     let p = err_from_is_err_and c.from_residual.result c.from_residual.ensures.1 in
-    rw (p.1, p.2) (wanting g.H.Hash32.digest_of c.args.world.now c.args.world.now _ _ Memory (hears_none g.H.Hash32.digest_of c.args.world.now) refl)
+    rw (p.1, p.2) (outstanding g.H.Hash32.digest_of c.args.world.now c.args.world.now _ _ Memory (hears_none g.H.Hash32.digest_of c.args.world.now) refl)
 
 pub returns-in_err-missing-clause-stopped : goal.returns-in_err-missing-clause-stopped
 returns-in_err-missing-clause-stopped g c =
     let p = err_from_is_err_and c.from_residual-in_err-missing.result c.from_residual-in_err-missing.ensures.1 in
-    rw (p.1, p.2) (wanting g.H.Hash32.digest_of c.args.world.now c.args.world.now _ _ Memory (hears_none g.H.Hash32.digest_of c.args.world.now) refl)
+    rw (p.1, p.2) (outstanding g.H.Hash32.digest_of c.args.world.now c.args.world.now _ _ Memory (hears_none g.H.Hash32.digest_of c.args.world.now) refl)
 
 pub returns-clause-stopped : goal.returns-clause-stopped
 returns-clause-stopped g c =
-    wanting g.H.Hash32.digest_of c.args.world.now c.findings_of.new.world _ _ Memory c.in_ok-findings.ensures.found.calm.hears refl
+    outstanding g.H.Hash32.digest_of c.args.world.now c.findings_of.new.world _ _ Memory c.in_ok-findings.ensures.found.calm.hears refl
 
 pub returns-in-Ok-clause-audited : goal.returns-in-Ok-clause-audited
 returns-in-Ok-clause-audited g c =

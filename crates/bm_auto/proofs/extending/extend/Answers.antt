@@ -22,7 +22,8 @@ loop-init g c =
 pub round-requires-clause-honest : goal.round-requires-clause-honest
 round-requires-clause-honest g c =
     subst (λ (rs : List (Bor Rule)). AllByRecursion (IsHonest c.loop.world.header) (lent rs)) (sym c.as_slice.ensures.value)
-    (honest_left g.H.Hash32.digest_of c.args.world.now c.loop.world c.args.rules.now (lent c.loop.left.items) c.loop.events.items c.loop.counter c.loop.invariant)
+    (honest_left g.H.Hash32.digest_of c.args.world.now c.loop.world c.args.rules.now (lent c.loop.left.items) c.loop.events.items
+    c.loop.counter c.loop.invariant)
 
 pub round-requires-clause-few : goal.round-requires-clause-few
 round-requires-clause-few g c =
@@ -37,7 +38,8 @@ returns-in_err-left-2-clause-stops g c =
     let p = err_from_is_err_and c.from_residual-in_err-left-2.result c.from_residual-in_err-left-2.ensures.1 in
     rw (p.1, p.2) (round_stops g.H.Hash32.digest_of c.args.world.now c.loop.world c.args.rules.now (lent c.loop.left.items) c.loop.events.items c.loop.counter
     c.loop.invariant c.round.new.world c.loop-test.true c.in_err-left-2.field-0.0
-    (subst (λ (rs : List (Bor Rule)). StopsTurning g.H.Hash32.digest_of c.loop.world c.round.new.world (lent rs) c.in_err-left-2.field-0.0) c.as_slice.ensures.value
+    (subst (λ (rs : List (Bor Rule)). StopsTurning g.H.Hash32.digest_of c.loop.world c.round.new.world (lent rs) c.in_err-left-2.field-0.0)
+    c.as_slice.ensures.value
     c.in_err-left-2.ensures.stops))
 
 pub returns-then-len-before-clause-extends : goal.returns-then-len-before-clause-extends
@@ -66,5 +68,6 @@ loop-preserved g c =
 
 pub returns-clause-extends : goal.returns-clause-extends
 returns-clause-extends g c =
-    out_of_rounds g.H.Hash32.digest_of c.args.world.now c.loop.world c.args.rules.now (lent c.loop.left.items) c.loop.events.items c.loop.counter c.loop.invariant
+    out_of_rounds g.H.Hash32.digest_of c.args.world.now c.loop.world c.args.rules.now (lent c.loop.left.items) c.loop.events.items
+    c.loop.counter c.loop.invariant
     c.loop-test.false

@@ -1,6 +1,6 @@
 use Rattle.std.proofs.Common.{sym, ap, ◌∙◌}
 use Rattle.spec_tool.specs.Turns.{act_event}
-use Rattle.bm_world_board.specs.Drafts.{setup_of, world_of}
+use Rattle.bm_world_board.specs.Prepares.{setup_of, world_of}
 use Rattle.bm_auto.proofs.Branches.{authorises_is, fires_is}
 use Rattle.bm_auto.proofs.ruling.rule_event.Goals as goal
 

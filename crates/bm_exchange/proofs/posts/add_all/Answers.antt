@@ -1,6 +1,6 @@
 use Rattle.std.proofs.Common.{◌<◌, ◌++◌, length, sym, ap, ◌∙◌, arith, append-nil}
 use Rattle.std.proofs.lemmas.List.{take_all}
-use Rattle.bm_exchange.proofs.Posting.{added_on, added_more, added_front}
+use Rattle.bm_exchange.proofs.Posting.{added_on, added_more, added_prefix}
 use Rattle.bm_exchange.proofs.posts.add_all.Goals as goal
 
 pub loop-number-init : goal.loop-number-init
@@ -9,8 +9,8 @@ loop-number-init c = sym (append-nil c.args.indexed.now)
 pub returns-in_err-add-clause-more : goal.returns-in_err-add-clause-more
 returns-in_err-add-clause-more c = added_more c.args.indexed.now _ _ (c.in_err-add.ensures.err ∙ c.loop-number.invariant)
 
-pub returns-in_err-add-clause-front : goal.returns-in_err-add-clause-front
-returns-in_err-add-clause-front c = added_front c.args.indexed.now _ _ (c.in_err-add.ensures.err ∙ c.loop-number.invariant)
+pub returns-in_err-add-clause-prefix : goal.returns-in_err-add-clause-prefix
+returns-in_err-add-clause-prefix c = added_prefix c.args.indexed.now _ _ (c.in_err-add.ensures.err ∙ c.loop-number.invariant)
 
 pub loop-number-preserved : goal.loop-number-preserved
 loop-number-preserved c =
@@ -29,5 +29,5 @@ returns-clause-ok c =
 pub returns-clause-more : goal.returns-clause-more
 returns-clause-more c = added_more c.args.indexed.now _ _ c.loop-number.invariant
 
-pub returns-clause-front : goal.returns-clause-front
-returns-clause-front c = added_front c.args.indexed.now _ _ c.loop-number.invariant
+pub returns-clause-prefix : goal.returns-clause-prefix
+returns-clause-prefix c = added_prefix c.args.indexed.now _ _ c.loop-number.invariant

@@ -5,15 +5,15 @@ use Rattle.bm_exchange.proofs.strings.add_first.Goals as goal
 pub returns-in_default-clause-placed : goal.returns-in_default-clause-placed
 returns-in_default-clause-placed c =
     let same : c.truncate.new.self ≡ c.args.strings.now = cut_back _ c.args.string.now _ _ _ c.len-place.ensures c.in_ok-push.ensures.ok c.truncate.ensures in
-    rw same (placed_still-marked _ c.args.places.now c.add_mark.new.marked c.requires.placed c.in_default.ensures.err)
+    rw same (placed_still-marked _ c.args.places.now c.add_fingerprint.new.marked c.requires.placed c.in_default.ensures.err)
 
 pub returns-then-first-place-clause-placed : goal.returns-then-first-place-clause-placed
 returns-then-first-place-clause-placed c =
-    placed_first _ c.args.places.now c.requires.placed c.args.string.now _ c.add_mark.new.marked c.mark_of.result c.in-Ok.first c.len-place.result
-    c.mark_of.ensures c.in-Ok.ensures.first c.in-Ok.ensures.put c.len-place.ensures c.in_ok-push.ensures.ok c.if-first-place.true
+    placed_first _ c.args.places.now c.requires.placed c.args.string.now _ c.add_fingerprint.new.marked c.fingerprint_of.result c.in-Ok.first c.len-place.result
+    c.fingerprint_of.ensures c.in-Ok.ensures.first c.in-Ok.ensures.put c.len-place.ensures c.in_ok-push.ensures.ok c.if-first-place.true
 
 pub returns-clause-placed : goal.returns-clause-placed
 returns-clause-placed c =
     let same : c.truncate-2.new.self ≡ c.args.strings.now = cut_back _ c.args.string.now _ _ _ c.len-place.ensures c.in_ok-push.ensures.ok c.truncate-2.ensures in
-    rw same (placed_kept _ c.args.places.now c.requires.placed c.add_mark.new.marked c.mark_of.result c.in-Ok.first c.len-place.result
+    rw same (placed_kept _ c.args.places.now c.requires.placed c.add_fingerprint.new.marked c.fingerprint_of.result c.in-Ok.first c.len-place.result
     c.in-Ok.ensures.first c.in-Ok.ensures.put c.if-first-place.false)

@@ -4,22 +4,22 @@ use Rattle.bm_exchange.proofs.Forgetting.{told, forgotten_marked, forgotten_noth
 use Rattle.bm_exchange.proofs.strings.forget_last.Goals as goal
 
 pub returns-then-is_here : goal.returns-then-is_here
-returns-then-is_here c = λ front here is.
-    forgotten_marked front c.args.string.now c.args.places.now is c.remove.new.self c.mark_of-mark.result c.mark_of-mark.ensures
+returns-then-is_here c = λ prefix here is.
+    forgotten_marked prefix c.args.string.now c.args.places.now is c.remove.new.self c.fingerprint_of-fingerprint.result c.fingerprint_of-fingerprint.ensures
     (told _ _ _ _ _ _ c.get.ensures.value here c.is_here.ensures c.if-is_here.true) c.remove.ensures.updates
 
 pub returns-then-is_here-2 : goal.returns-then-is_here-2
-returns-then-is_here-2 c = λ front here is.
-    let mark = ap (marked_at c.args.places.now.marked) c.mark_of-mark.ensures in
-    forgotten_other front c.args.string.now c.args.places.now is
-    (told _ _ _ _ _ _ (c.get.ensures.value ∙ mark) here c.is_here.ensures c.if-is_here.false)
+returns-then-is_here-2 c = λ prefix here is.
+    let fingerprint = ap (marked_at c.args.places.now.marked) c.fingerprint_of-fingerprint.ensures in
+    forgotten_other prefix c.args.string.now c.args.places.now is
+    (told _ _ _ _ _ _ (c.get.ensures.value ∙ fingerprint) here c.is_here.ensures c.if-is_here.false)
     c.remove-then-is_here-2.new.self
     (told _ _ _ _ _ _ c.get-else-is_here.ensures.value here c.is_here-else-is_here.ensures c.if-is_here-2.true)
     c.remove-then-is_here-2.ensures.updates
 
 pub returns-else-is_here-2 : goal.returns-else-is_here-2
-returns-else-is_here-2 c = λ front here is.
-    let mark = ap (marked_at c.args.places.now.marked) c.mark_of-mark.ensures in
-    forgotten_nothing front c.args.string.now c.args.places.now is
-    (told _ _ _ _ _ _ (c.get.ensures.value ∙ mark) here c.is_here.ensures c.if-is_here.false)
+returns-else-is_here-2 c = λ prefix here is.
+    let fingerprint = ap (marked_at c.args.places.now.marked) c.fingerprint_of-fingerprint.ensures in
+    forgotten_nothing prefix c.args.string.now c.args.places.now is
+    (told _ _ _ _ _ _ (c.get.ensures.value ∙ fingerprint) here c.is_here.ensures c.if-is_here.false)
     (told _ _ _ _ _ _ c.get-else-is_here.ensures.value here c.is_here-else-is_here.ensures c.if-is_here-2.false)

@@ -11,4 +11,5 @@ loop-preserved c =
     rw (c.in_ok-push-in-Ok.ensures.ok, c.in_ok-from_slice-in-Ok.ensures) (items_more string_at c.loop.items c.args.count c.loop.counter c.loop.rest.now c.in-Ok.item.now c.in-Ok.after.now (many string_at c.args.count c.args.bytes.now) c.loop-test.true c.in-Ok.ensures c.loop.invariant)
 
 pub returns : goal.returns
-returns c = sym (items_done string_at c.loop.items c.args.count c.loop.counter c.loop.rest.now (many string_at c.args.count c.args.bytes.now) c.loop-test.false c.loop.invariant)
+returns c = sym (items_done string_at c.loop.items c.args.count c.loop.counter c.loop.rest.now
+    (many string_at c.args.count c.args.bytes.now) c.loop-test.false c.loop.invariant)

@@ -6,7 +6,8 @@ use Rattle.bm_psbt.proofs.Putting.{gather_more, gather_none, gather_end, gather_
 use Rattle.bm_psbt.proofs.maps.gather.Goals as goal
 
 pub returns-in_default : goal.returns-in_default
-returns-in_default c = gather_none (length c.args.bytes.now) c.loop.counter (pairs c.loop.records.entries) c.loop.rest.now (ordered_at c.args.bytes.now) c.loop-test.true (nil_from_length c.loop.rest.now c.in_default.ensures.cases) c.loop.invariant
+returns-in_default c = gather_none (length c.args.bytes.now) c.loop.counter (pairs c.loop.records.entries) c.loop.rest.now
+    (ordered_at c.args.bytes.now) c.loop-test.true (nil_from_length c.loop.rest.now c.in_default.ensures.cases) c.loop.invariant
 
 pub returns-then-first-eq0 : goal.returns-then-first-eq0
 returns-then-first-eq0 c =
@@ -24,4 +25,5 @@ loop-preserved c =
     c.loop-test.true c.in-Some.ensures.cases.0 c.if-first-eq0.false c.in_ok-rest.ensures c.loop.invariant
 
 pub returns : goal.returns
-returns c = gather_past (length c.args.bytes.now) c.loop.counter (pairs c.loop.records.entries) c.loop.rest.now (ordered_at c.args.bytes.now) c.loop-test.false c.loop.invariant
+returns c = gather_past (length c.args.bytes.now) c.loop.counter (pairs c.loop.records.entries) c.loop.rest.now
+    (ordered_at c.args.bytes.now) c.loop-test.false c.loop.invariant

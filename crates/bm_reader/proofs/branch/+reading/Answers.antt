@@ -7,7 +7,8 @@ pub branches_of-returns : goal.branches_of-returns
 branches_of-returns t c =
     rw (c.in_ok-branch_before.ensures, c.in_ok-first-2.ensures)
     (branch_step (branch_at c.args.depth) c.args.depth c.args.more c.args.budget c.args.lexemes.now c.in_ok-first.rest.now
-    c.in_ok-goes_on.rest.now c.in_ok-others.rest.now (guarded c.in_ok-first.first) c.in_ok-first.left (choice_view c.in_ok-others.others.items) c.in_ok-others.left
+    c.in_ok-goes_on.rest.now c.in_ok-others.rest.now (guarded c.in_ok-first.first) c.in_ok-first.left
+    (choice_view c.in_ok-others.others.items) c.in_ok-others.left
     c.if-more-eq0.false c.in_ok-first.ensures (rw c.if-not-goes_on.false at c.in_ok-goes_on.ensures) c.in_ok-others.ensures)
 
 pub parts_of-returns : goal.parts_of-returns

@@ -23,7 +23,8 @@ part_of-requires-clause-low g c =
 pub part_of-requires-clause-high : goal.part_of-requires-clause-high
 part_of-requires-clause-high g c =
     let lt = fewer c.self.inside.cells.items c.self.inside.ends.items c.args.self.now c.args.number c.self.view_is c.requires in
-    rw c.deref-2.ensures.value (row_between c.self.inside.cells.items c.self.inside.ends.items c.args.number c.start_of-start.result c.index.result.now c.self.invariant lt
+    rw c.deref-2.ensures.value (row_between c.self.inside.cells.items c.self.inside.ends.items c.args.number c.start_of-start.result
+    c.index.result.now c.self.invariant lt
     (c.start_of-start.ensures ∙ ap (λ l. start_at 0 l c.args.number) c.deref.ensures.value) c.index.ensures).1
 
 pub returns : goal.returns

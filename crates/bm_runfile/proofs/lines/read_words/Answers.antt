@@ -31,5 +31,6 @@ loop-i-preserved c = elim c.if-is_space.branch [
 pub returns : goal.returns
 returns c =
     on_ok_weaker c.push_word-2.result
-    (λ e. words_end c.args.line.now _ c.loop-i.start _ _ _ (λ k less from. c.loop-i.invariant.filled k (omega arith) from) (take_rest c.args.line.now c.loop-i.start) e c.loop-i.invariant.told)
+    (λ e. words_end c.args.line.now _ c.loop-i.start _ _ _ (λ k less from. c.loop-i.invariant.filled k (omega arith) from)
+    (take_rest c.args.line.now c.loop-i.start) e c.loop-i.invariant.told)
     c.push_word-2.ensures

@@ -1,5 +1,5 @@
 use Rattle.std.proofs.Common.{◌∙◌}
-use Rattle.bm_world_board.specs.Drafts.{setup_of}
+use Rattle.bm_world_board.specs.Prepares.{setup_of}
 use Rattle.bm_translate.specs.Shown.{posts_of}
 use Rattle.bm_translate.proofs.Known.{revealed_told}
 use Rattle.bm_translate.proofs.Turns.{advertise_are, commit_are, reveal_are, post_are}

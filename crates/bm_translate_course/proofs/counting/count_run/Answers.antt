@@ -1,4 +1,4 @@
-use Rattle.bm_world_board.specs.Drafts.{setup_of}
+use Rattle.bm_world_board.specs.Prepares.{setup_of}
 use Rattle.bm_translate_course.proofs.Course.{few_compiled}
 use Rattle.bm_translate_course.proofs.counting.count_run.Goals as goal
 

@@ -1,6 +1,6 @@
 use Rattle.std.proofs.Common.{ap, sym, subst, ◌∙◌}
 use Rattle.spec_calculus.specs.Steps.{Legal}
-use Rattle.bm_world_board.specs.Drafts.{setup_of}
+use Rattle.bm_world_board.specs.Prepares.{setup_of}
 use Rattle.bm_translate_course.specs.Courses.{passed_by}
 use Rattle.bm_translate.specs.Shown.{posts_of}
 use Rattle.bm_translate_course.proofs.Blocks.{steps_are, passed_are}

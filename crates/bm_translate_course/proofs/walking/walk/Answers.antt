@@ -1,7 +1,7 @@
 use Rattle.std.proofs.Common.{[], ◌+◌, drop, sym, subst}
 use Rattle.std.proofs.lemmas.List.{drop_all}
 use Rattle.spec_run.specs.Translation.{translated, last_configuration}
-use Rattle.bm_world_board.specs.Drafts.{setup_of}
+use Rattle.bm_world_board.specs.Prepares.{setup_of}
 use Rattle.bm_translate_course.specs.Courses.{events_of, end_of, IsUnderWay}
 use Rattle.bm_translate_course.proofs.Course.{left_of, starts, few_outputs, is_next, goes_on, ended}
 use Rattle.bm_translate_course.proofs.walking.walk.Goals as goal

@@ -1,6 +1,6 @@
 use Rattle.std.proofs.Common.{◌≡◌, [], drop}
 use Rattle.spec_run.specs.Translation.{translated, last_configuration}
-use Rattle.bm_world_board.specs.Drafts.{setup_of}
+use Rattle.bm_world_board.specs.Prepares.{setup_of}
 use Rattle.bm_translate_course.specs.Courses.{events_of, end_of, IsUnderWay}
 use Rattle.bm_translate_course.proofs.walking.walk.Given as goal
 

@@ -1,8 +1,8 @@
 use Rattle.std.proofs.Common.{◌≡◌, ◌-◌}
 use Rattle.spec_bitcoin.specs.Reading.{many, output_at}
-use Rattle.bm_tx.proofs.Loop.{with_front}
+use Rattle.bm_tx.proofs.Loop.{with_prefix}
 use Rattle.bm_tx.proofs.reading.outputs_of.Given as goal
 
 -- what was read and what is left to read are the whole
 abbrev pub invariant-loop : goal.invariant-loop
-invariant-loop l = with_front l.outputs (many output_at (l.count - l.counter) l.rest) ≡ many output_at l.count l.bytes
+invariant-loop l = with_prefix l.outputs (many output_at (l.count - l.counter) l.rest) ≡ many output_at l.count l.bytes

@@ -12,7 +12,8 @@ invariant-in_branches-loop-branch l =
       counted : l.number ≡ l.branch-index;
       small : AreSmall rest;
       low : length l.position + 2 * depth_of_choice rest ≤ 128;
-      found : found_in_branches l.flaw l.advert l.position l.balance l.number rest ≡ found_in_branches l.flaw l.advert l.position l.balance 0 (choice_view l.branches);
+      found : found_in_branches l.flaw l.advert l.position l.balance l.number rest
+          ≡ found_in_branches l.flaw l.advert l.position l.balance 0 (choice_view l.branches);
     }
 
 abbrev pub invariant-in_parts-loop-part : goal.invariant-in_parts-loop-part

@@ -7,4 +7,5 @@ pub loop-number-init : goal.loop-number-init
 loop-number-init c = sym (spend-none 0 c.args.outputs.now.items)
 
 pub loop-number-preserved : goal.loop-number-preserved
-loop-number-preserved c = spend_more _ _ _ c.args.spent.now c.loop-number.number-index _ c.loop-number.invariant c.loop-number-test.true (search rules) c.spend_output.ensures
+loop-number-preserved c =
+    spend_more _ _ _ c.args.spent.now c.loop-number.number-index _ c.loop-number.invariant c.loop-number-test.true (search rules) c.spend_output.ensures

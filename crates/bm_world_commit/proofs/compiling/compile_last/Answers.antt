@@ -14,7 +14,7 @@ use Rattle.spec_run.specs.Compiled.{compiled_instance}
 use Rattle.spec_run.specs.Committing.{strings_compiled}
 use Rattle.theory_world.proofs.Later.{compiled_from}
 use Rattle.bm_compile.specs.Numbered.{instance_with}
-use Rattle.bm_world_board.specs.Drafts.{setup_of, world_of}
+use Rattle.bm_world_board.specs.Prepares.{setup_of, world_of}
 use Rattle.bm_world_commit.specs.Committed.{promise_in, promised, placed_at, are_made, has_all_bound}
 use Rattle.bm_world_commit.specs.Entries.{entry_of}
 use Rattle.bm_world_commit.proofs.Completed.{none_complete, instance_by}
@@ -70,7 +70,13 @@ returns-in_err-compiled-clause-trail g c = λ messages.
     let some : compiled_instance s next k ≡ Some (instance_with k checked (map (placed_at c.args.board.now.coins.outputs) bindings) hashes) =
     compiled_from s next k checked there (sym c.in-Some-bindings.ensures.there) all ∙ ap Some (sym (instance_by s next k checked bindings hashes c.in-Some-bindings.ensures.bindings refl)) in
     let p = err_from_is_err_and c.from_residual.result c.from_residual.ensures.1 in
-    rw (p.1, p.2) (c.in_err-compiled.ensures.trail.0, tt, subst (λ o. Stops hash c.args.trail.now.messages c.compile_bound.new.trail.messages (strings_compiled s o) c.in_err-compiled.field-0.0) (sym some) c.in_err-compiled.ensures.trail.2)
+    rw (p.1, p.2) (
+      c.in_err-compiled.ensures.trail.0,
+      tt,
+      subst
+          (λ o. Stops hash c.args.trail.now.messages c.compile_bound.new.trail.messages (strings_compiled s o) c.in_err-compiled.field-0.0)
+          (sym some) c.in_err-compiled.ensures.trail.2,
+    )
 
 pub returns-clause-compiled : goal.returns-clause-compiled
 returns-clause-compiled g c = λ messages.
@@ -99,5 +105,9 @@ returns-clause-trail g c = λ messages.
     let there : contract_at s k ≡ Some checked = sym c.contract.ensures ∙ ap (option_map (λ r. r.now)) c.in-Some.is in
     let all : have_promised next k (participants checked) ≡ true = rw c.parties.ensures at (sym c.have_promised.ensures ∙ c.if-not-have_promised.false) in
     let some : compiled_instance s next k ≡ Some (instance_with k checked (map (placed_at c.args.board.now.coins.outputs) bindings) hashes) =
-    compiled_from s next k checked there (sym c.in-Some-bindings.ensures.there) all ∙ ap Some (sym (instance_by s next k checked bindings hashes c.in-Some-bindings.ensures.bindings refl)) in
-    (c.in_ok-compiled.ensures.trail.0, subst (λ o. Hashed hash c.args.trail.now.messages c.compile_bound.new.trail.messages (strings_compiled s o)) (sym some) c.in_ok-compiled.ensures.trail.1, tt)
+    compiled_from s next k checked there (sym c.in-Some-bindings.ensures.there) all ∙ ap Some (sym (instance_by s next k checked bindings hashes c.in-Some-bindings.ensures.bindings refl)) in (
+      c.in_ok-compiled.ensures.trail.0,
+      subst
+          (λ o. Hashed hash c.args.trail.now.messages c.compile_bound.new.trail.messages (strings_compiled s o)) (sym some) c.in_ok-compiled.ensures.trail.1,
+      tt,
+    )

@@ -6,5 +6,6 @@ use Rattle.bm_world_commit.proofs.compiling.have_promised.Given as goal
 
 abbrev pub invariant-loop-party : goal.invariant-loop-party
 invariant-loop-party l =
-    list_all (λ (party : List ℕ). list_any (is_promise_of l.promising.contract party) (l.exchange.promises ++ promise_in l.promising ∷ [])) (drop l.party-index l.parties)
+    list_all (λ (party : List ℕ). list_any (is_promise_of l.promising.contract party) (l.exchange.promises ++ promise_in l.promising ∷ []))
+    (drop l.party-index l.parties)
     ≡ list_all (λ (party : List ℕ). list_any (is_promise_of l.promising.contract party) (l.exchange.promises ++ promise_in l.promising ∷ [])) l.parties

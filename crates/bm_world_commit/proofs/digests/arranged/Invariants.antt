@@ -7,6 +7,6 @@ use Rattle.bm_world_commit.proofs.digests.arranged.Given as goal
 
 abbrev pub invariant-loop-name : goal.invariant-loop-name
 invariant-loop-name l = record {
-  there : list_all (λ n. is_some (look_up n l.digests)) (drop l.name-index l.wanted) ≡ true;
-  so_far : l.list ++ arranged [] (drop l.name-index l.wanted) l.digests ≡ arranged [] l.wanted l.digests;
+  there : list_all (λ n. is_some (look_up n l.digests)) (drop l.name-index l.required) ≡ true;
+  so_far : l.list ++ arranged [] (drop l.name-index l.required) l.digests ≡ arranged [] l.required l.digests;
 }

@@ -4,7 +4,7 @@ use Rattle.std.specs.Option.{option_copied}
 use Rattle.spec_run.specs.World.{live_position_at}
 use Rattle.spec_run.specs.Ledger.{position_branch}
 use Rattle.bm_syntax.specs.View.{guarded}
-use Rattle.bm_world_board.specs.Drafts.{setup_of, world_of}
+use Rattle.bm_world_board.specs.Prepares.{setup_of, world_of}
 use Rattle.bm_world_fire.proofs.Unknown.{refused_branchless, refused_unknown, passed}
 use Rattle.bm_world_fire.proofs.firing.taking_refusal.Goals as goal
 

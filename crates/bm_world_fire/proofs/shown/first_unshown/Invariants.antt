@@ -1,5 +1,5 @@
 use Rattle.std.proofs.Common.{◌≡◌, drop}
-use Rattle.bm_world_board.specs.Drafts.{setup_of}
+use Rattle.bm_world_board.specs.Prepares.{setup_of}
 use Rattle.bm_world_fire.specs.Shown.{first_unshown_by}
 use Rattle.bm_world_fire.proofs.shown.first_unshown.Given as goal
 

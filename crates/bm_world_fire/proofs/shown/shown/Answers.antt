@@ -3,7 +3,7 @@ use Rattle.std.specs.Prelude.{option_map}
 use Rattle.std.specs.Option.{option_and_then, option_copied}
 use Rattle.spec_data.specs.Lists.{look_up}
 use Rattle.bm_hash.specs.Messages.{message_of}
-use Rattle.bm_world_board.specs.Drafts.{setup_of}
+use Rattle.bm_world_board.specs.Prepares.{setup_of}
 use Rattle.bm_world_fire.specs.Shown.{if_shown}
 use Rattle.bm_world_fire.proofs.Known.{shown_none, shown_some}
 use Rattle.bm_world_fire.proofs.shown.shown.Goals as goal
@@ -11,7 +11,8 @@ use Rattle.bm_world_fire.proofs.shown.shown.Goals as goal
 pub returns-in_default : goal.returns-in_default
 returns-in_default g c =
     let s = setup_of (g.H.Hash32.digest_of c.args.trail.now.hasher) c.args.board.now in
-    shown_none s (g.met.H.Hash32.sized c.args.trail.now.hasher) c.args.board.now.exchange.posted c.args.hashes.now c.args.name.now (sym c.digest_of.ensures ∙ ap (option_map (λ d. d.now)) c.in_default.is)
+    shown_none s (g.met.H.Hash32.sized c.args.trail.now.hasher) c.args.board.now.exchange.posted c.args.hashes.now c.args.name.now
+    (sym c.digest_of.ensures ∙ ap (option_map (λ d. d.now)) c.in_default.is)
 
 pub returns-in_default-message : goal.returns-in_default-message
 returns-in_default-message g c =

@@ -1,6 +1,6 @@
 use Rattle.std.proofs.Common.{◌≡◌, ◌++◌, ℕ, List, drop, map}
 use Rattle.spec_run.specs.Setup.{bytes_or_none}
-use Rattle.bm_world_board.specs.Drafts.{setup_of}
+use Rattle.bm_world_board.specs.Prepares.{setup_of}
 use Rattle.bm_world_fire.specs.Shown.{shown_by}
 use Rattle.bm_world_fire.proofs.shown.shown_strings.Given as goal
 

@@ -3,7 +3,7 @@ use Rattle.spec_compiler.specs.Witness.{witness_of}
 use Rattle.spec_run.specs.Setup.{bytes_or_none}
 use Rattle.spec_run.specs.Firing.{with_witnesses, other_digests}
 use Rattle.spec_run.specs.Signing.{first_of}
-use Rattle.bm_world_board.specs.Drafts.{setup_of}
+use Rattle.bm_world_board.specs.Prepares.{setup_of}
 use Rattle.bm_world_fire.specs.Filled.{deposits_items, owner_in, signed_by}
 use Rattle.bm_world_fire.specs.Shown.{shown_by}
 use Rattle.bm_world_fire.proofs.taking.filled.Goals as goal

@@ -7,7 +7,7 @@ use Rattle.spec_run.specs.World.{digests_at}
 use Rattle.spec_run.specs.Ledger.{count_of, position_path}
 use Rattle.bm_compile.specs.Numbered.{script_at}
 use Rattle.bm_syntax.specs.View.{guarded}
-use Rattle.bm_world_board.specs.Drafts.{setup_of, world_of}
+use Rattle.bm_world_board.specs.Prepares.{setup_of, world_of}
 use Rattle.bm_world_fire.specs.Taken.{taking_with}
 use Rattle.bm_world_fire.proofs.Taken.{number_of, advert_is, choice_there, script_is, within, made_there, made_is, taking_is}
 use Rattle.bm_world_fire.proofs.taking.taking_held.Goals as goal
@@ -62,5 +62,6 @@ returns g c =
     (sym (ap (option_map (λ r. r.now)) c.in-Some-script_at.is) ∙ c.script_at.ensures.compiled hash is.instance numbers ∙ ap (script_at s.hash is.instance) c.position.ensures) in
     let hashes = c.as_slice.ensures ∙ c.in_ok-hashes.ensures ∙ ap (digests_at c.args.board.now.exchange.promises) c.contract.ensures in
     let text = advert_is s w held is c.args.checked.now c.requires.contract in
-    ap Some (c.in_ok-tx.ensures ∙ (λ i. taking_with s posted (c.contract-2.ensures i) (text i) (hashes i) (c.in_ok-path.ensures i) j (count i) b (made i) ((c.as_slice-2.ensures ∙ script) i)))
+    ap Some (c.in_ok-tx.ensures ∙ (λ i. taking_with s posted (c.contract-2.ensures i) (text i) (hashes i) (c.in_ok-path.ensures i) j
+    (count i) b (made i) ((c.as_slice-2.ensures ∙ script) i)))
     ∙ taking_is s w held is j b c.requires.taken

@@ -10,5 +10,10 @@ pub returns-clause-trail : goal.returns-clause-trail
 returns-clause-trail g c =
     let hash = g.H.Hash32.digest_of c.args.trail.now.hasher in
     let made : c.in_ok-outputs.outputs ≡ opening_outputs (setup_with (g.H.Hash32.digest_of c.args.trail.now.hasher) c.args.header.now []) = rw c.as_slice.ensures at (c.in_ok-outputs.ensures hash c.args.header.now.parties c.requires.accounts) in
-    let hashed : Hashed (g.H.Hash32.digest_of c.args.trail.now.hasher) c.args.trail.now.messages c.opening.new.trail.messages (txid_strings (g.H.Hash32.digest_of c.args.trail.now.hasher) (opening_transaction c.in_ok-outputs.outputs)) = rw c.as_slice-2.ensures at c.in_ok-coins.ensures.trail.1 in
-    (c.in_ok-coins.ensures.trail.0, subst (λ (os : List TxOut). Hashed (g.H.Hash32.digest_of c.args.trail.now.hasher) c.args.trail.now.messages c.opening.new.trail.messages (txid_strings (g.H.Hash32.digest_of c.args.trail.now.hasher) (opening_transaction os))) made hashed, tt)
+    let hashed : Hashed (g.H.Hash32.digest_of c.args.trail.now.hasher) c.args.trail.now.messages c.opening.new.trail.messages (txid_strings (g.H.Hash32.digest_of c.args.trail.now.hasher) (opening_transaction c.in_ok-outputs.outputs)) = rw c.as_slice-2.ensures at c.in_ok-coins.ensures.trail.1 in (
+      c.in_ok-coins.ensures.trail.0,
+      subst (λ (os : List TxOut). Hashed (g.H.Hash32.digest_of c.args.trail.now.hasher)
+          c.args.trail.now.messages c.opening.new.trail.messages
+          (txid_strings (g.H.Hash32.digest_of c.args.trail.now.hasher) (opening_transaction os))) made hashed,
+      tt,
+    )

@@ -1,6 +1,6 @@
 use Rattle.std.proofs.Common.{Some, None, true, false, refl, sym, ◌∙◌}
 use Rattle.bm_syntax.specs.View.{guarded}
-use Rattle.bm_world_board.specs.Drafts.{setup_of, world_of}
+use Rattle.bm_world_board.specs.Prepares.{setup_of, world_of}
 use Rattle.bm_world_sign.proofs.Refused.{authorise_is, authorise_found}
 use Rattle.bm_world_sign.proofs.authorising.authorise_refusal.Goals as goal
 

@@ -1,6 +1,6 @@
 use Rattle.std.proofs.Common.{ap, ◌∙◌, [], ◌∷◌}
 use Rattle.spec_run.specs.Signing.{branch_pair, first_digest}
-use Rattle.bm_world_board.specs.Drafts.{setup_of}
+use Rattle.bm_world_board.specs.Prepares.{setup_of}
 use Rattle.bm_world_sign.specs.Instances.{instance_on}
 use Rattle.bm_world_sign.proofs.Signed.{first_there}
 use Rattle.bm_world_sign.proofs.authorising.pair_at.Goals as goal

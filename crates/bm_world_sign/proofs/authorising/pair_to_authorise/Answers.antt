@@ -1,6 +1,6 @@
 use Rattle.std.proofs.Common.{ap, ◌∙◌}
 use Rattle.spec_run.specs.Signing.{authorising_pairs}
-use Rattle.bm_world_board.specs.Drafts.{setup_of, world_of}
+use Rattle.bm_world_board.specs.Prepares.{setup_of, world_of}
 use Rattle.bm_world_sign.proofs.authorising.pair_to_authorise.Goals as goal
 
 pub returns-in_default : goal.returns-in_default

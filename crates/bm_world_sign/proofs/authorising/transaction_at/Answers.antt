@@ -1,5 +1,5 @@
 use Rattle.std.proofs.Common.{◌∙◌}
-use Rattle.bm_world_board.specs.Drafts.{setup_of}
+use Rattle.bm_world_board.specs.Prepares.{setup_of}
 use Rattle.bm_world_sign.specs.Instances.{instance_on}
 use Rattle.bm_world_sign.proofs.Shown.{compiled_here}
 use Rattle.bm_world_sign.proofs.Signed.{found_there, none_there}

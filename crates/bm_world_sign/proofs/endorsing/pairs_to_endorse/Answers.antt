@@ -1,6 +1,6 @@
 use Rattle.std.proofs.Common.{◌≡◌, [], rules, ◌∙◌, sym, ap}
 use Rattle.spec_run.specs.Signing.{endorsing_pairs}
-use Rattle.bm_world_board.specs.Drafts.{setup_of}
+use Rattle.bm_world_board.specs.Prepares.{setup_of}
 use Rattle.bm_world_sign.specs.Instances.{instance_on}
 use Rattle.bm_world_sign.proofs.Shown.{shown_nodes, not_shown}
 use Rattle.bm_world_sign.proofs.Signed.{endorsed_shown}

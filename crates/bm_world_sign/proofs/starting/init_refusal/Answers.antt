@@ -1,5 +1,5 @@
 use Rattle.std.proofs.Common.{sym, ◌∙◌}
-use Rattle.bm_world_board.specs.Drafts.{setup_of, world_of}
+use Rattle.bm_world_board.specs.Prepares.{setup_of, world_of}
 use Rattle.bm_world_sign.proofs.Refused.{init_early}
 use Rattle.bm_world_sign.proofs.starting.init_refusal.Goals as goal
 

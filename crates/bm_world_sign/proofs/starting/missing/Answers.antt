@@ -1,6 +1,6 @@
 use Rattle.std.proofs.Common.{sym, ap, ◌∙◌}
 use Rattle.spec_run.specs.Signing.{missing_need}
-use Rattle.bm_world_board.specs.Drafts.{setup_of, world_of}
+use Rattle.bm_world_board.specs.Prepares.{setup_of, world_of}
 use Rattle.bm_world_sign.specs.Instances.{instance_on}
 use Rattle.bm_world_sign.specs.Starting.{missed_reason}
 use Rattle.bm_world_sign.proofs.Shown.{shown_nodes, not_shown}

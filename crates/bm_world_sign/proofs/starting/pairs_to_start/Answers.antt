@@ -1,6 +1,6 @@
 use Rattle.std.proofs.Common.{◌≡◌, [], rules, sym, ap, ◌∙◌}
 use Rattle.spec_run.specs.Signing.{initial_pairs}
-use Rattle.bm_world_board.specs.Drafts.{setup_of}
+use Rattle.bm_world_board.specs.Prepares.{setup_of}
 use Rattle.bm_world_sign.specs.Instances.{instance_on}
 use Rattle.bm_world_sign.proofs.Shown.{not_shown}
 use Rattle.bm_world_sign.proofs.Signed.{initial_shown}

@@ -1,7 +1,7 @@
 use Rattle.std.proofs.Common.{sym, subst, ◌∙◌}
 use Rattle.spec_run.specs.Ledger.{first_position, first_number}
 use Rattle.bm_match.specs.Matches.{IsActive}
-use Rattle.bm_world_board.specs.Drafts.{setup_of, world_of}
+use Rattle.bm_world_board.specs.Prepares.{setup_of, world_of}
 use Rattle.bm_world_board.specs.Reaching.{spent_in}
 use Rattle.bm_world_spend.proofs.Kinded.{active_is, purpose_is}
 use Rattle.bm_world_spend.proofs.purposes.purpose.Goals as goal

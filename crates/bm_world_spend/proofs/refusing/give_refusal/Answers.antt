@@ -3,7 +3,7 @@ use Rattle.std.specs.Prelude.{nat_lt, is_none}
 use Rattle.spec_data.specs.Lists as lists
 use Rattle.spec_data.specs.Ranges.{max_money}
 use Rattle.spec_run.specs.Giving.{first_dead, first_foreign, value_in, value_out}
-use Rattle.bm_world_board.specs.Drafts.{setup_of, world_of}
+use Rattle.bm_world_board.specs.Prepares.{setup_of, world_of}
 use Rattle.bm_world_spend.proofs.Owning.{foreign_is, refused_by}
 use Rattle.bm_world_spend.proofs.refusing.give_refusal.Goals as goal
 
@@ -16,7 +16,8 @@ returns-in-Some-first_foreign c = λ hash messages same.
     let dead : first_dead w inputs ≡ None = sym (c.first_dead.ensures messages) ∙ c.in_default.is in
     let foreign : first_foreign s w c.args.party.now inputs ≡ Some c.in-Some-first_foreign.number =
     sym (c.first_foreign.ensures ∙ foreign_is s c.args.board.now.accounts same w c.args.party.now inputs) ∙ c.in-Some-first_foreign.is in
-    sym (λ i. refused_by (dead i) (foreign i) (lists.are_distinct inputs) (nat_lt max_money (value_out outputs)) (nat_lt (value_in w inputs) (value_out outputs)))
+    sym (λ i. refused_by (dead i) (foreign i) (lists.are_distinct inputs) (nat_lt max_money (value_out outputs))
+    (nat_lt (value_in w inputs) (value_out outputs)))
 
 pub returns-then-not-are_distinct : goal.returns-then-not-are_distinct
 returns-then-not-are_distinct c = λ hash messages same.

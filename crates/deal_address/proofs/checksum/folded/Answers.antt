@@ -6,6 +6,7 @@ use Rattle.deal_address.proofs.checksum.folded.Goals as goal
 
 pub loop-generator-preserved : goal.loop-generator-preserved
 loop-generator-preserved c =
-    ap (λ g. folded (c.loop-generator.rest / 2) (drop (c.loop-generator.generator-index + 1) generators) (bit_xor c.loop-generator.next g)) c.chosen-next.ensures
+    ap (λ g. folded (c.loop-generator.rest / 2) (drop (c.loop-generator.generator-index + 1) generators) (bit_xor c.loop-generator.next g))
+    c.chosen-next.ensures
     ∙ folded_more generators c.loop-generator.generator-index c.loop-generator.rest c.loop-generator.next (omega arith)
     ∙ c.loop-generator.invariant

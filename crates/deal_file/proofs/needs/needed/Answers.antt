@@ -24,7 +24,7 @@ returns c =
     let one : c.put_parties.new.out.items ≡ parties =
     c.in_ok-put_parties.ensures ∙ (λ j. c.new-all.ensures.items j ++ map party_need (c.parties.ensures j)) in
     let two : c.put_branches.new.out.items ≡ parties ++ paths =
-    c.in_ok-put_branches.ensures ∙ ap (λ (front : List Needed). front ++ paths) one in
+    c.in_ok-put_branches.ensures ∙ ap (λ (prefix : List Needed). prefix ++ paths) one in
     let three : c.put_deposits.new.out.items ≡ (parties ++ paths) ++ places =
     c.in_ok-put_deposits.ensures ∙ (λ j. two j ++ map needs.Deposit (names_of (deposits (first j)))) in
     c.in_ok-put_secrets.ensures ∙ (λ j. three j ++ map needs.Hash (names_of (secrets (second j))))

@@ -1,8 +1,9 @@
 use Rattle.std.proofs.Common.{◌≡◌, map, drop}
 use Rattle.std.specs.List.{find}
-use Rattle.deal_missing.specs.Wanted.{want_in, is_unendorsed}
+use Rattle.deal_missing.specs.Required.{requirement_in, is_unendorsed}
 use Rattle.deal_missing.proofs.looking.first_without.Given as goal
 
-abbrev pub invariant-loop-want : goal.invariant-loop-want
-invariant-loop-want l =
-    find (is_unendorsed l.given) (map want_in (drop l.want-index l.wants)) ≡ find (is_unendorsed l.given) (map want_in l.wants)
+abbrev pub invariant-loop-requirement : goal.invariant-loop-requirement
+invariant-loop-requirement l =
+    find (is_unendorsed l.given) (map requirement_in (drop l.requirement-index l.requirements))
+    ≡ find (is_unendorsed l.given) (map requirement_in l.requirements)

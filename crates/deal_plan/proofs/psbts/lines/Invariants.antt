@@ -8,5 +8,6 @@ use Rattle.deal_plan.proofs.psbts.lines.Given as goal
 abbrev pub invariant-loop-transaction : goal.invariant-loop-transaction
 invariant-loop-transaction l = record {
   signable : list_all is_signable (drop l.transaction-index l.transactions) ≡ true;
-  told : l.out.items ++ flat_map (λ t. psbt_line (psbt_for t)) (drop l.transaction-index l.transactions) ≡ flat_map (λ t. psbt_line (psbt_for t)) l.transactions;
+  told : l.out.items ++ flat_map (λ t. psbt_line (psbt_for t)) (drop l.transaction-index l.transactions)
+      ≡ flat_map (λ t. psbt_line (psbt_for t)) l.transactions;
 }

@@ -8,10 +8,10 @@ use Rattle.deal_secrets.proofs.refusals.put_line.Goals as goal
 pub returns : goal.returns
 returns c =
     let old = c.args.out.now.items in
-    let front = codes "secrets refused " in
+    let prefix = codes "secrets refused " in
     let fault = fault_text c.args.fault in
     on_ok_weaker c.put-2.result
     (λ e. e
     ∙ ap (λ (text : List ℕ). text ++ newline) (c.in_ok-put_fault.ensures ∙ ap (λ (text : List ℕ). text ++ fault) c.in_ok-put.ensures)
-    ∙ append_assoc (old ++ front) fault newline ∙ append_assoc old front (fault ++ newline))
+    ∙ append_assoc (old ++ prefix) fault newline ∙ append_assoc old prefix (fault ++ newline))
     c.put-2.ensures

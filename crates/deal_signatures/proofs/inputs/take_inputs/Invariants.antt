@@ -5,5 +5,5 @@ use Rattle.deal_signatures.proofs.inputs.take_inputs.Given as goal
 
 abbrev pub invariant-loop-number : goal.invariant-loop-number
 invariant-loop-number l =
-    take_inputs secp256k1 l.wanted l.tx l.number l.given (drop l.number l.inputs) l.rest
-    ≡ take_inputs secp256k1 l.wanted l.tx 0 l.fn.given l.inputs l.said
+    take_inputs secp256k1 l.required l.tx l.number l.given (drop l.number l.inputs) l.rest
+    ≡ take_inputs secp256k1 l.required l.tx 0 l.fn.given l.inputs l.said

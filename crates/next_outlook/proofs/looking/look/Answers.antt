@@ -4,7 +4,7 @@ use Rattle.spec_next.specs.declared.outlook.Prospect.{Prospect}
 use Rattle.std.proofs.Common.{List}
 use Rattle.bm_world.specs.declared.halt.Halt.TheVariants.{Memory}
 use Rattle.next_outlook.specs.Foretold.{ruling_in}
-use Rattle.bm_world_heard.proofs.Hearing.{foreseen_calm, foreseeing_stopped, wanting}
+use Rattle.bm_world_heard.proofs.Hearing.{foreseen_calm, foreseeing_stopped, outstanding}
 use Rattle.next_outlook.proofs.Told.{told_there}
 use Rattle.next_outlook.proofs.looking.look.Goals as goal
 
@@ -25,6 +25,6 @@ returns-in-Ok-clause-sees g c = record {
 
 pub returns-clause-stopped : goal.returns-clause-stopped
 returns-clause-stopped g c =
-    wanting g.H.Hash32.digest_of c.args.world.now c.foresee.new.self _ _ Memory
+    outstanding g.H.Hash32.digest_of c.args.world.now c.foresee.new.self _ _ Memory
     (foreseen_calm g.H.Hash32.digest_of c.args.world.now c.foresee.new.self c.args.event.now c.in_ok-outcome.outcome c.in_ok-outcome.ensures.foresees).hears
     refl

@@ -7,18 +7,18 @@ use Rattle.spec_next.specs.Foreseen.{foreseen_strings}
 use Rattle.spec_terms.specs.Parties.{participants}
 use Rattle.spec_next.specs.Prospects.{outlook_by}
 use Rattle.bm_world.specs.declared.halt.Halt.TheVariants.{Memory}
-use Rattle.bm_world_board.specs.Drafts.{setup_of}
+use Rattle.bm_world_board.specs.Prepares.{setup_of}
 use Rattle.bm_world.specs.Playing.{setup_in}
 use Rattle.bm_world_heard.specs.Heard.{Calm}
 use Rattle.next_outlook.specs.Foretold.{all_foretold}
 use Rattle.next_outlook.proofs.Events.{candidates_are}
-use Rattle.bm_world_heard.proofs.Hearing.{hears_none, wanting, stopped_same}
+use Rattle.bm_world_heard.proofs.Hearing.{hears_none, outstanding, stopped_same}
 use Rattle.next_outlook.proofs.looking.look_contract.Goals as goal
 
 pub returns-in_err-events-clause-stopped : goal.returns-in_err-events-clause-stopped
 returns-in_err-events-clause-stopped g c =
     let p = err_from_is_err_and c.from_residual.result c.from_residual.ensures.1 in
-    rw (p.1, p.2) (wanting g.H.Hash32.digest_of c.args.world.now c.args.world.now _ _ Memory (hears_none g.H.Hash32.digest_of c.args.world.now) refl)
+    rw (p.1, p.2) (outstanding g.H.Hash32.digest_of c.args.world.now c.args.world.now _ _ Memory (hears_none g.H.Hash32.digest_of c.args.world.now) refl)
 
 pub look_all-requires-clause-are : goal.look_all-requires-clause-are
 look_all-requires-clause-are g c =
@@ -52,4 +52,4 @@ returns-in-Ok-clause-sees g c =
 
 pub returns-clause-stopped : goal.returns-clause-stopped
 returns-clause-stopped g c =
-    wanting g.H.Hash32.digest_of c.args.world.now c.look_all.new.world _ _ Memory c.in_ok-prospects.ensures.sees.calm.hears refl
+    outstanding g.H.Hash32.digest_of c.args.world.now c.look_all.new.world _ _ Memory c.in_ok-prospects.ensures.sees.calm.hears refl

@@ -9,6 +9,6 @@ pub loop-number-preserved : goal.loop-number-preserved
 loop-number-preserved c =
     let n = c.loop-number.number in
     let texts = c.args.texts.now in
-    subst (λ (front : List Advert). behind front (spec.contracts_in (n + 1) (drop (n + 1) texts)) ≡ spec.contracts_in 0 texts) (sym c.in_ok-push-in-Ok.ensures.items)
+    subst (λ (prefix : List Advert). behind prefix (spec.contracts_in (n + 1) (drop (n + 1) texts)) ≡ spec.contracts_in 0 texts) (sym c.in_ok-push-in-Ok.ensures.items)
     (goes_on c.loop-number.contracts.items n texts c.index-texts-number.result c.in-Ok.contract (spec.contracts_in 0 texts) c.loop-number-test.true
     (sym (ap spec.contract_in c.index-texts-number.is) ∙ c.in-Ok.ensures) c.loop-number.invariant)

@@ -17,7 +17,10 @@ play_events-requires-clause-events g c =
 
 pub returns : goal.returns
 returns g c =
-    left_is g.H.Hash32.digest_of c.args.world.hasher c.args.run.now.header c.args.world.contracts c.args.world c.play_events.new.world c.args.run.now.events c.in_ok-stop.stop
-    c.requires.setup (c.requires.run.events (setup_with (g.H.Hash32.digest_of c.args.world.hasher) c.args.run.now.header c.args.world.contracts) refl) c.requires.opens
+    left_is g.H.Hash32.digest_of c.args.world.hasher c.args.run.now.header c.args.world.contracts c.args.world c.play_events.new.world
+    c.args.run.now.events c.in_ok-stop.stop
+    c.requires.setup (c.requires.run.events (setup_with (g.H.Hash32.digest_of c.args.world.hasher) c.args.run.now.header
+    c.args.world.contracts) refl) c.requires.opens
     (subst (λ (w : world.Played _). Plays g.H.Hash32.digest_of w c.play_events.new.world c.args.run.now.events c.in_ok-stop.stop) c.make_room.ensures
-    (subst (λ (es : List Event). Plays g.H.Hash32.digest_of c.make_room.new.self c.play_events.new.world es c.in_ok-stop.stop) c.as_slice.ensures c.in_ok-stop.ensures))
+    (subst (λ (es : List Event). Plays g.H.Hash32.digest_of c.make_room.new.self c.play_events.new.world es c.in_ok-stop.stop)
+    c.as_slice.ensures c.in_ok-stop.ensures))

@@ -19,5 +19,6 @@ returns g c =
     let end = ending_of c.args.end.now in
     subst (λ (p : Printed). IfOk c.report_reply-reply.result (λ reply. printed reply ≡ p))
     (ap (λ (h : Header). prints (ending_status end) (report_text h.deposits (entries_by c.as_slice.result.now steps) end)) c.into_records-header.ensures.header
-    ∙ ap (λ (rs : List Record). prints (ending_status end) (report_text w.header.deposits (entries_by rs steps) end)) (c.as_slice.ensures ∙ c.into_records-header.ensures.records))
+    ∙ ap (λ (rs : List Record). prints (ending_status end) (report_text w.header.deposits (entries_by rs steps) end))
+    (c.as_slice.ensures ∙ c.into_records-header.ensures.records))
     c.report_reply-reply.ensures

@@ -5,7 +5,7 @@ use Rattle.tool_shell.specs.Asked.{asked}
 use Rattle.tool_shell.specs.Files.{taken, Went}
 use Rattle.tool_shell.specs.Logs.{Logs}
 use Rattle.tool_shell.proofs.Told.{on_err, asks_so_far, list_goes_on, list_fits, list_fails, list_asks, list_ends}
-use Rattle.tool_shell.proofs.Logged.{log_goes_on, log_fails, log_wants, log_front, log_ends, log_starts}
+use Rattle.tool_shell.proofs.Logged.{log_goes_on, log_fails, log_shortages, log_prefix, log_ends, log_starts}
 use Rattle.tool_shell.proofs.reading.read_all.Goals as goal
 
 abbrev nothing : Bor (List ℕ) × ℕ
@@ -14,16 +14,17 @@ nothing = (record { ref_ptr = (0, 0); now = [] }, 0)
 pub returns-in_err-text-clause-memory : goal.returns-in_err-text-clause-memory
 returns-in_err-text-clause-memory g c =
     on_err c.from_residual.result _
-    (list_asks (g.F.Files.told c.args.files.now) (g.F.Files.told c.loop-name.files) (g.F.Files.told c.read_one.new.files) c.args.list.now nothing c.loop-name.name-index
+    (list_asks (g.F.Files.told c.args.files.now) (g.F.Files.told c.loop-name.files) (g.F.Files.told c.read_one.new.files) c.args.list.now
+    nothing c.loop-name.name-index
     c.loop-name.texts c.loop-name.invariant.counted c.loop-name-test.true c.loop-name.invariant.went c.loop-name.invariant.fit c.in_err-text.ensures.memory)
 
-pub returns-in_err-text-clause-wanted : goal.returns-in_err-text-clause-wanted
-returns-in_err-text-clause-wanted g c =
+pub returns-in_err-text-clause-short : goal.returns-in_err-text-clause-short
+returns-in_err-text-clause-short g c =
     on_err c.from_residual.result _
-    (log_wants (g.F.Files.log c.args.files.now) (g.F.Files.log c.loop-name.files) (g.F.Files.log c.read_one.new.files)
+    (log_shortages (g.F.Files.log c.args.files.now) (g.F.Files.log c.loop-name.files) (g.F.Files.log c.read_one.new.files)
     (g.F.Files.taken c.args.files.now) (g.F.Files.taken c.loop-name.files) (g.F.Files.taken c.read_one.new.files) c.args.list.now nothing
     c.loop-name.name-index c.loop-name.texts
-    c.loop-name.invariant.counted c.loop-name-test.true c.loop-name.invariant.logs c.in_err-text.ensures.wanted)
+    c.loop-name.invariant.counted c.loop-name-test.true c.loop-name.invariant.logs c.in_err-text.ensures.short)
 
 pub returns-in_default-clause-logged : goal.returns-in_default-clause-logged
 returns-in_default-clause-logged g c =
@@ -35,20 +36,23 @@ returns-in_default-clause-logged g c =
 
 pub returns-in_default-clause-reads : goal.returns-in_default-clause-reads
 returns-in_default-clause-reads g c =
-    list_fails (g.F.Files.told c.args.files.now) (g.F.Files.told c.loop-name.files) (g.F.Files.told c.read_one.new.files) c.args.list.now nothing c.loop-name.name-index
-    c.loop-name.texts c.loop-name.invariant.counted c.loop-name-test.true c.loop-name.invariant.went c.loop-name.invariant.fit c.in_ok-text.field-0 c.in_default.is c.in_ok-text.ensures.reads
+    list_fails (g.F.Files.told c.args.files.now) (g.F.Files.told c.loop-name.files) (g.F.Files.told c.read_one.new.files) c.args.list.now
+    nothing c.loop-name.name-index
+    c.loop-name.texts c.loop-name.invariant.counted c.loop-name-test.true c.loop-name.invariant.went c.loop-name.invariant.fit
+    c.in_ok-text.field-0 c.in_default.is c.in_ok-text.ensures.reads
 
 pub returns-in_err-push-clause-memory : goal.returns-in_err-push-clause-memory
 returns-in_err-push-clause-memory g c =
     on_err c.from_residual-in_err-push.result _
     (asks_so_far (g.F.Files.told c.args.files.now) (g.F.Files.told c.read_one.new.files) (map asked c.args.list.now) (c.loop-name.texts ++ c.in-Some.text ∷ [])
-    (list_goes_on (g.F.Files.told c.args.files.now) (g.F.Files.told c.loop-name.files) (g.F.Files.told c.read_one.new.files) c.args.list.now nothing c.loop-name.name-index
+    (list_goes_on (g.F.Files.told c.args.files.now) (g.F.Files.told c.loop-name.files) (g.F.Files.told c.read_one.new.files) c.args.list.now
+    nothing c.loop-name.name-index
     c.loop-name.texts c.loop-name.invariant.counted c.loop-name-test.true c.loop-name.invariant.went c.loop-name.invariant.fit c.in_ok-text.field-0 c.in-Some.text c.in-Some.is c.in_ok-text.ensures.reads))
 
-pub returns-in_err-push-clause-wanted : goal.returns-in_err-push-clause-wanted
-returns-in_err-push-clause-wanted g c =
+pub returns-in_err-push-clause-short : goal.returns-in_err-push-clause-short
+returns-in_err-push-clause-short g c =
     on_err c.from_residual-in_err-push.result _
-    (log_front (g.F.Files.log c.args.files.now) (g.F.Files.log c.read_one.new.files) (g.F.Files.taken c.args.files.now)
+    (log_prefix (g.F.Files.log c.args.files.now) (g.F.Files.log c.read_one.new.files) (g.F.Files.taken c.args.files.now)
     (g.F.Files.taken c.read_one.new.files)
     c.args.list.now (c.loop-name.texts ++ c.in-Some.text ∷ [])
     (let counted = c.loop-name.invariant.counted in let less = c.loop-name-test.true in
@@ -66,8 +70,10 @@ loop-name-preserved g c =
     let pushed : c.push.new.self ≡ c.loop-name.texts ++ c.in-Some.text ∷ [] = c.in_ok-push.ensures.ok in
     record {
       counted = ap length pushed ∙ length-append c.loop-name.texts (c.in-Some.text ∷ []) ∙ ap (λ (n : ℕ). n + 1) c.loop-name.invariant.counted;
-      went = subst (λ (texts : List Text). Went (g.F.Files.told c.args.files.now) (g.F.Files.told c.read_one.new.files) (map asked c.args.list.now) texts) (sym pushed)
-          (list_goes_on (g.F.Files.told c.args.files.now) (g.F.Files.told c.loop-name.files) (g.F.Files.told c.read_one.new.files) c.args.list.now nothing c.loop-name.name-index
+      went = subst (λ (texts : List Text). Went (g.F.Files.told c.args.files.now) (g.F.Files.told c.read_one.new.files)
+          (map asked c.args.list.now) texts) (sym pushed)
+          (list_goes_on (g.F.Files.told c.args.files.now) (g.F.Files.told c.loop-name.files) (g.F.Files.told c.read_one.new.files)
+          c.args.list.now nothing c.loop-name.name-index
           c.loop-name.texts c.loop-name.invariant.counted c.loop-name-test.true c.loop-name.invariant.went c.loop-name.invariant.fit c.in_ok-text.field-0 c.in-Some.text c.in-Some.is c.in_ok-text.ensures.reads);
       logs = subst (λ (texts : List Text). Logs (g.F.Files.log c.args.files.now) (g.F.Files.log c.read_one.new.files)
           (g.F.Files.taken c.args.files.now) (g.F.Files.taken c.read_one.new.files) (map asked c.args.list.now) (taken texts)) (sym pushed)
@@ -77,7 +83,8 @@ loop-name-preserved g c =
           c.loop-name.invariant.counted c.loop-name-test.true c.loop-name.invariant.logs c.in_ok-text.field-0 c.in-Some.text c.in-Some.is
           c.in_ok-text.ensures.logged);
       fit = subst (λ (texts : List Text). all_fit (map asked c.args.list.now) texts ≡ true) (sym pushed)
-          (list_fits (g.F.Files.told c.args.files.now) (g.F.Files.told c.loop-name.files) (g.F.Files.told c.read_one.new.files) c.args.list.now nothing c.loop-name.name-index
+          (list_fits (g.F.Files.told c.args.files.now) (g.F.Files.told c.loop-name.files) (g.F.Files.told c.read_one.new.files)
+          c.args.list.now nothing c.loop-name.name-index
           c.loop-name.texts c.loop-name.invariant.counted c.loop-name-test.true c.loop-name.invariant.went c.loop-name.invariant.fit c.in_ok-text.field-0 c.in-Some.text c.in-Some.is c.in_ok-text.ensures.few);
       later = let so_far = c.loop-name.invariant.later in let more = c.read_one.ensures.later in omega (arith, so_far, more);
     }

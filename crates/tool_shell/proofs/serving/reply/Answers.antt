@@ -1,7 +1,7 @@
 use Rattle.std.proofs.Common.{map, ap, ◌∙◌}
 use Rattle.spec_tool.specs.Reads.{texts_read}
 use Rattle.tool_shell.specs.Asked.{asked}
-use Rattle.tool_shell.proofs.Ending.{replied, wanted_after}
+use Rattle.tool_shell.proofs.Ending.{replied, short_after}
 use Rattle.tool_shell.proofs.serving.reply.Goals as goal
 
 pub returns-clause-reply : goal.returns-clause-reply
@@ -24,8 +24,8 @@ returns-clause-reply g c =
     (ap (map asked) c.as_slice.ensures.value ∙ c.in_ok-list.ensures) c.in_ok-reading.ensures.reads c.in_ok-reading.ensures.logged
     c.in_ok-reading.ensures.rose c.reply_to.ensures
 
-pub returns-clause-wanted : goal.returns-clause-wanted
-returns-clause-wanted g c =
-    wanted_after c.reply_to.result (g.F.Files.log c.args.files.now) (g.F.Files.log c.read_all.new.files)
+pub returns-clause-short : goal.returns-clause-short
+returns-clause-short g c =
+    short_after c.reply_to.result (g.F.Files.log c.args.files.now) (g.F.Files.log c.read_all.new.files)
     (g.F.Files.taken c.args.files.now) (g.F.Files.taken c.read_all.new.files) (map asked c.as_slice.result.now) _ _
     (ap (map asked) c.as_slice.ensures.value ∙ c.in_ok-list.ensures) c.in_ok-reading.ensures.logged

@@ -5,4 +5,5 @@ use Rattle.bm_interp.proofs.Conditions.{all_hold-reverse}
 use Rattle.bm_interp.proofs.top_first.Stack+bool.all_hold.Goals as goal
 
 pub returns : goal.returns
-returns c = c.all_true.ensures ∙ ap (λ xs. list_all (λ b. b) xs) c.as_slice.ensures.value ∙ all_hold-reverse c.self.inside.items.items ∙ ap all_hold c.self.view_is
+returns c =
+    c.all_true.ensures ∙ ap (λ xs. list_all (λ b. b) xs) c.as_slice.ensures.value ∙ all_hold-reverse c.self.inside.items.items ∙ ap all_hold c.self.view_is

@@ -1,5 +1,5 @@
 use Rattle.std.proofs.Common.{◌∙◌}
-use Rattle.bm_world_board.specs.Drafts.{setup_of, world_of}
+use Rattle.bm_world_board.specs.Prepares.{setup_of, world_of}
 use Rattle.bm_world_board.proofs.Compilations.{compiled_is}
 use Rattle.bm_world.proofs.world.World.compiled.Goals as goal
 

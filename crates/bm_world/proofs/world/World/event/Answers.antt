@@ -1,6 +1,6 @@
 use Rattle.std.proofs.Common.{◌≡◌, None, ap, subst}
 use Rattle.spec_run.specs.Conditions.{IsEvent}
-use Rattle.bm_world_board.specs.Drafts.{setup_of, world_of}
+use Rattle.bm_world_board.specs.Prepares.{setup_of, world_of}
 use Rattle.bm_world.specs.Playing.{IsWorld}
 use Rattle.bm_world.proofs.Played.{playable_of, world_after, world_halted, halts_again}
 use Rattle.bm_world.proofs.Stopped.{stopped_again}

@@ -1,7 +1,7 @@
 use Rattle.std.proofs.Common.{None, refl, ap, subst}
-use Rattle.spec_run.specs.Event.{draft}
+use Rattle.spec_run.specs.Event.{pending}
 use Rattle.bm_world_board.specs.declared.board.Board.{Board}
-use Rattle.bm_world_board.specs.Drafts.{setup_of, world_of}
+use Rattle.bm_world_board.specs.Prepares.{setup_of, world_of}
 use Rattle.bm_world.specs.Playing.{IsWorld}
 use Rattle.bm_world.proofs.Played.{playable_of, world_halted, world_hears, judged_halts, judged_again, shown_by}
 use Rattle.bm_world.proofs.Stopped.{stopped_again}
@@ -15,7 +15,7 @@ pub invariant_of-self : goal.invariant_of-self
 invariant_of-self g c =
     let s = setup_of (g.H.Hash32.digest_of c.self.inside.trail.hasher) c.self.inside.board in
     let w = world_of c.self.inside.board c.self.inside.trail.messages in
-    let d = draft s w c.args.event.now in
+    let d = pending s w c.args.event.now in
     let was : IsWorld (setup_of (g.H.Hash32.digest_of c.self.inside.trail.hasher) c.self.inside.board) c.self.inside.board
     c.self.inside.trail.messages c.self.inside.trace None =
     subst (IsWorld (setup_of (g.H.Hash32.digest_of c.self.inside.trail.hasher) c.self.inside.board) c.self.inside.board
@@ -36,13 +36,13 @@ invariant_of-self-in-Err g c =
     c.self.inside.trail.messages c.self.inside.trace None =
     subst (IsWorld (setup_of (g.H.Hash32.digest_of c.self.inside.trail.hasher) c.self.inside.board) c.self.inside.board
     c.self.inside.trail.messages c.self.inside.trace) c.in_default.is c.self.invariant in
-    let halts = judged_halts s.hash c.self.inside.trail.messages c.foretell.new.trail.messages (draft s w c.args.event.now).hashes
+    let halts = judged_halts s.hash c.self.inside.trail.messages c.foretell.new.trail.messages (pending s w c.args.event.now).hashes
     c.in-Err.error c.trail_halt-halt.result (was.clear refl) c.in-Err.ensures.stops
     (shown_by g.H.Hash32.digest_of c.self.inside.trail.hasher c.foretell.new.trail.hasher c.foretell.new.trail.messages c.in-Err.error
     c.trail_halt-halt.result c.foretell.ensures.hasher c.trail_halt-halt.ensures.memory c.trail_halt-halt.ensures.collided c.trail_halt-halt.ensures.unguessed) in
     rw (c.keep.ensures.kept, c.foretell.ensures.board)
     (world_halted s (setup_of (g.H.Hash32.digest_of c.foretell.new.trail.hasher) c.self.inside.board) c.self.inside.board
-    c.self.inside.trail.messages c.foretell.new.trail.messages (draft s w c.args.event.now).hashes c.self.inside.trace _ was halts.hashed
+    c.self.inside.trail.messages c.foretell.new.trail.messages (pending s w c.args.event.now).hashes c.self.inside.trace _ was halts.hashed
     (λ i. record {
       hash = g.H.Hash32.digest_of (c.foretell.ensures.hasher i);
       header = c.self.inside.board.header;
@@ -80,12 +80,13 @@ returns-in-Err-clause-stopped g c =
       trace = refl;
       halted = λ none. c.keep.ensures.kept;
       again = λ earlier h. let none = c.in_default.is in cc;
-      cause = λ none. judged_again s.hash c.self.inside.trail.messages c.foretell.new.trail.messages (draft s w c.args.event.now).hashes
+      cause = λ none. judged_again s.hash c.self.inside.trail.messages c.foretell.new.trail.messages (pending s w c.args.event.now).hashes
           c.trail_halt-halt.result c.keep.result c.keep.ensures.same
-          (judged_halts s.hash c.self.inside.trail.messages c.foretell.new.trail.messages (draft s w c.args.event.now).hashes
+          (judged_halts s.hash c.self.inside.trail.messages c.foretell.new.trail.messages (pending s w c.args.event.now).hashes
           c.in-Err.error c.trail_halt-halt.result (c.self.invariant.clear c.in_default.is) c.in-Err.ensures.stops
           (shown_by g.H.Hash32.digest_of c.self.inside.trail.hasher c.foretell.new.trail.hasher c.foretell.new.trail.messages c.in-Err.error
-          c.trail_halt-halt.result c.foretell.ensures.hasher c.trail_halt-halt.ensures.memory c.trail_halt-halt.ensures.collided c.trail_halt-halt.ensures.unguessed));
+          c.trail_halt-halt.result c.foretell.ensures.hasher c.trail_halt-halt.ensures.memory c.trail_halt-halt.ensures.collided
+          c.trail_halt-halt.ensures.unguessed));
     })
 
 pub returns-in-Some-clause-stopped : goal.returns-in-Some-clause-stopped

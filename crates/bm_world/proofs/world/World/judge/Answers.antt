@@ -1,7 +1,7 @@
 use Rattle.std.proofs.Common.{None, refl, ap, subst}
 use Rattle.spec_run.specs.Ledger.{strings_of}
 use Rattle.bm_hash.proofs.Collisions.{hashed_adds}
-use Rattle.bm_world_board.specs.Drafts.{setup_of, world_of}
+use Rattle.bm_world_board.specs.Prepares.{setup_of, world_of}
 use Rattle.bm_world.specs.Playing.{IsWorld}
 use Rattle.bm_world.proofs.Played.{world_halted, world_hears, judged_halts, judged_again, shown_by}
 use Rattle.bm_world.proofs.Stopped.{stopped_again}

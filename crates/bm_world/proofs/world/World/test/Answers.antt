@@ -1,8 +1,8 @@
 use Rattle.std.proofs.Common.{None, refl, ap, subst}
-use Rattle.spec_run.specs.Event.{draft}
-use Rattle.spec_run.specs.Draft.{settled}
+use Rattle.spec_run.specs.Event.{pending}
+use Rattle.spec_run.specs.Pending.{applied}
 use Rattle.bm_world_board.specs.declared.board.Board.{Board}
-use Rattle.bm_world_board.specs.Drafts.{setup_of, world_of}
+use Rattle.bm_world_board.specs.Prepares.{setup_of, world_of}
 use Rattle.bm_world.specs.Playing.{IsWorld}
 use Rattle.bm_world.proofs.Played.{playable_of, world_halted, world_hears, halts_again}
 use Rattle.bm_world.proofs.Reaching.{calm_of}
@@ -16,12 +16,12 @@ pub invariant_of-self : goal.invariant_of-self
 invariant_of-self g c =
     let s = setup_of (g.H.Hash32.digest_of c.self.inside.trail.hasher) c.self.inside.board in
     let w = world_of c.self.inside.board c.self.inside.trail.messages in
-    let d = draft s w c.args.event.now in
+    let d = pending s w c.args.event.now in
     let was : IsWorld (setup_of (g.H.Hash32.digest_of c.self.inside.trail.hasher) c.self.inside.board) c.self.inside.board
     c.self.inside.trail.messages c.self.inside.trace None =
     subst (IsWorld (setup_of (g.H.Hash32.digest_of c.self.inside.trail.hasher) c.self.inside.board) c.self.inside.board
     c.self.inside.trail.messages c.self.inside.trace) c.in_default.is c.self.invariant in
-    let calm = calm_of s w (settled w d) d c.in-Ok.ensures.tests.went in
+    let calm = calm_of s w (applied w d) d c.in-Ok.ensures.tests.went in
     rw c.test.ensures.board (world_hears s (setup_of (g.H.Hash32.digest_of c.test.new.trail.hasher) c.self.inside.board)
     c.self.inside.board c.self.inside.trail.messages c.test.new.trail.messages d.hashes c.self.inside.trace c.self.inside.halt was
     (λ i. record {

@@ -8,4 +8,5 @@ use Rattle.bm_ledger.proofs.outputs.indexed.Live.is_new.Goals as goal
 pub returns : goal.returns
 returns c =
     let made = c.is_made.ensures ∙ ap (list_any (is_of c.args.txid.now)) (c.as_slice.ensures ∙ c.keys.ensures.rest) in
-    rw (← c.self.view_is) (new_by_number _ c.self.inside.entries.items c.args.txid.now (not c.is_made.result) c.self.invariant (is_new_txid c.self.inside.numbers.entries c.args.txid.now c.is_made.result made))
+    rw (← c.self.view_is) (new_by_number _ c.self.inside.entries.items c.args.txid.now (not c.is_made.result) c.self.invariant
+    (is_new_txid c.self.inside.numbers.entries c.args.txid.now c.is_made.result made))

@@ -1,0 +1,11 @@
+use Rattle.std.proofs.Common.{ℕ, List, length, ap, ◌∙◌, rules}
+use Rattle.std.specs.Prelude.{take_while}
+use Rattle.spec_terms.specs.Readable.{is_name_byte}
+use Rattle.std.proofs.lemmas.List.{take_rest}
+use Rattle.bm_lex.proofs.Runs.{word_at-is}
+use Rattle.bm_lex.proofs.prefix.word_at.Goals as goal
+
+pub returns-clause-value : goal.returns-clause-value
+returns-clause-value c =
+    word_at-is c.args.bytes.now _ _ c.requires
+    (c.name_length-more.ensures.value ∙ ap (λ (xs : List ℕ). length (take_while is_name_byte xs)) (take_rest c.args.bytes.now 1)) (search rules)

@@ -1,0 +1,49 @@
+use Rattle.std.proofs.Common.{◌≡◌, Some, None, sym, ap, ◌∙◌}
+use Rattle.std.specs.List.{find}
+use Rattle.std.specs.Option.{option_copied}
+use Rattle.spec_run.specs.Pending.{is_guessed}
+use Rattle.std.proofs.lemmas.Result.{err_from_is_err_and}
+use Rattle.bm_world_board.specs.declared.board.Board.{Board}
+use Rattle.bm_world_board.specs.Prepares.{setup_of, world_of}
+use Rattle.bm_world_board.specs.Secrets.{secret_strings}
+use Rattle.bm_world.proofs.Played.{memory_halts, guess_halts, passes_by}
+use Rattle.bm_world.proofs.playing.pending_passing.Goals as goal
+
+pub first_guessed-requires : goal.first_guessed-requires
+first_guessed-requires g c = record {
+  known = rw c.as_slice.ensures (ap (λ (b : Board). b.known) c.pending_or_halt.ensures.board.rest ∙ c.requires.playable.known
+      ∙ sym (ap (λ (b : Board). secret_strings b.header.secrets) c.pending_or_halt.ensures.board.rest));
+}
+
+pub returns-in-Some-clause-halts : goal.returns-in-Some-clause-halts
+returns-in-Some-clause-halts g c =
+    let hash = g.H.Hash32.digest_of c.args.trail.now.hasher in
+    let x = c.in_ok-answer.answer.0 in
+    let found : find (is_guessed c.args.board.now.exchange.posted x.posts x.allowed) c.args.board.now.header.secrets
+    ≡ Some c.in-Some.held.now =
+    sym (ap (λ (b : Board). find (is_guessed b.exchange.posted c.in_ok-answer.answer.0.posts c.in_ok-answer.answer.0.allowed)
+    b.header.secrets) c.pending_or_halt.ensures.board.rest)
+    ∙ sym (rw (c.as_slice.ensures, c.as_slice-2.ensures, c.value.ensures, c.value-2.ensures) at c.in_ok-guessed.ensures.found) ∙ ap option_copied c.in-Some.is in
+    guess_halts (setup_of hash c.args.board.now) (world_of c.args.board.now c.args.trail.now.messages) _ c.pending_or_halt.new.trail.messages
+    c.args.event.now x c.requires.playable.clear c.in_ok-answer.ensures.ok c.in-Some.held.now found
+
+pub returns-clause-passes : goal.returns-clause-passes
+returns-clause-passes g c =
+    let hash = g.H.Hash32.digest_of c.args.trail.now.hasher in
+    let x = c.in_ok-answer.answer.0 in
+    let none : find (is_guessed c.args.board.now.exchange.posted x.posts x.allowed) c.args.board.now.header.secrets ≡ None =
+    sym (ap (λ (b : Board). find (is_guessed b.exchange.posted c.in_ok-answer.answer.0.posts c.in_ok-answer.answer.0.allowed)
+    b.header.secrets) c.pending_or_halt.ensures.board.rest)
+    ∙ sym (rw (c.as_slice.ensures, c.as_slice-2.ensures, c.value.ensures, c.value-2.ensures) at c.in_ok-guessed.ensures.found) ∙ ap option_copied c.in_default.is in
+    rw c.first_guessed.ensures.same (
+    passes_by (setup_of hash c.args.board.now) (world_of c.args.board.now c.args.trail.now.messages) _ c.pending_or_halt.new.trail.messages
+    c.args.event.now x c.requires.playable.clear c.in_ok-answer.ensures.ok
+    c.args.board.now.compiled c.in_ok-answer.answer.1 none c.in_ok-answer.ensures.compiled
+    )
+
+pub returns-in_err-guessed-clause-halts : goal.returns-in_err-guessed-clause-halts
+returns-in_err-guessed-clause-halts g c =
+    let hash = g.H.Hash32.digest_of c.args.trail.now.hasher in
+    let p = err_from_is_err_and c.from_residual-in_err-guessed.result c.from_residual-in_err-guessed.ensures.1 in
+    rw (p.1, p.2) (memory_halts (setup_of hash c.args.board.now) (world_of c.args.board.now c.args.trail.now.messages) _
+    c.pending_or_halt.new.trail.messages c.args.event.now c.in_ok-answer.answer.0 c.requires.playable.clear c.in_ok-answer.ensures.ok)

@@ -1,0 +1,3 @@
+pub mod Unguessed
+pub mod Last
+pub mod Applied

@@ -1,3 +1,0 @@
-pub mod Unguessed
-pub mod Last
-pub mod Settled

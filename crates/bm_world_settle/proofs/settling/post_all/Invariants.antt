@@ -1,5 +1,0 @@
-use Rattle.std.proofs.Common.{◌≡◌, ◌++◌, take}
-use Rattle.bm_world_settle.proofs.settling.post_all.Given as goal
-
-abbrev pub invariant-loop-string : goal.invariant-loop-string
-invariant-loop-string l = l.exchange ≡ record l.fn.exchange { posted = l.fn.exchange.posted ++ take l.string-index l.strings }

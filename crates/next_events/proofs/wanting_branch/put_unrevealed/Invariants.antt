@@ -1,8 +1,0 @@
-use Rattle.std.proofs.Common.{◌≡◌, ◌++◌, drop}
-use Rattle.spec_next.specs.Wants.{unmet, revealed}
-use Rattle.next_events.proofs.wanting_branch.put_unrevealed.Given as goal
-
-abbrev pub invariant-loop-name : goal.invariant-loop-name
-invariant-loop-name l =
-    l.wants ++ unmet (revealed l.honest l.config l.contract l.pre (drop l.name-index l.reveals))
-    ≡ l.initial.wants ++ unmet (revealed l.honest l.config l.contract l.pre l.reveals)

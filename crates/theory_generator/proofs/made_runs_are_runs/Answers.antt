@@ -1,5 +1,0 @@
-use Rattle.theory_generator.proofs.RunsPlay.{run_plays}
-use Rattle.theory_generator.proofs.made_runs_are_runs.Goals as goal
-
-pub returns : goal.returns
-returns c = run_plays

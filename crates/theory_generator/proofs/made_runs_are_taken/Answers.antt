@@ -1,5 +1,0 @@
-use Rattle.theory_generator.proofs.RunTexts.{run_taken}
-use Rattle.theory_generator.proofs.made_runs_are_taken.Goals as goal
-
-pub returns : goal.returns
-returns c = run_taken

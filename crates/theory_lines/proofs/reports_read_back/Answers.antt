@@ -1,5 +1,0 @@
-use Rattle.theory_lines.proofs.AuditTexts.{reports_back}
-use Rattle.theory_lines.proofs.reports_read_back.Goals as goal
-
-pub returns : goal.returns
-returns c = reports_back

@@ -1,5 +1,0 @@
-use Rattle.theory_lines.proofs.Plans.{same_plans}
-use Rattle.theory_lines.proofs.same_plans_show_the_same.Goals as goal
-
-pub returns : goal.returns
-returns c = same_plans

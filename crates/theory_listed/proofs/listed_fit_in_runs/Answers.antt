@@ -1,5 +1,0 @@
-use Rattle.theory_listed.proofs.InRuns as proof
-use Rattle.theory_listed.proofs.listed_fit_in_runs.Goals as goal
-
-pub returns : goal.returns
-returns c = proof.listed_fit

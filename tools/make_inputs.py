@@ -187,6 +187,9 @@ def main(folder):
     for n in (2499, 4998, 9996):
         write(f"mine{n}.run", HEADER + SMALL + "mine 1\n" * n)
         call("mine", n, "play", f"mine{n}.run")
+        digests = [bytes(8).hex() + k.to_bytes(24, "big").hex() for k in range(n)]
+        write(f"sign{n}.run", HEADER + SMALL + "".join(f"sign B D:B {d}\n" for d in digests))
+        call("sign_of_one_beginning", n, "play", f"sign{n}.run")
     names = [f"s{k}" for k in range(1000)]
     posts = "".join(f"post {(2 ** 127 + k).to_bytes(24, 'big').hex()}\n" for k in range(9000))
     for n in (250, 500, 1000):

@@ -28,7 +28,7 @@ IMPORTS = re.compile(r'\s*(?:pub |ghost )?use ')
 COMMENTS = re.compile(r'\s*(?:--|//|#)')
 
 # Files that no change has to touch: tests, test vectors, answers to goals, and what is built.
-PASSED_OVER = re.compile(r'/out/|/tests/|^tests_|^theory_\w*values/|/(?:Worked|Verdicts|Answers|Invariants)\w*\.antt$')
+PASSED_OVER = re.compile(r'/out/|/tests/|^tests_|^theory_\w*values/|/(?:Worked\w*|Verdicts\w*|Answers|Invariants|\w*Vectors)\.antt$')
 
 
 @functools.cache

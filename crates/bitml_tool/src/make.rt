@@ -15,7 +15,7 @@ use std::alloc::Global;
 use tool_command::{Judgement, judge_both};
 use tool_replies::generated_reply;
 
-// The texts of a generated run and its contract, judged as if they had been read. Nothing needs them after that, so they are let go.
+// The texts of a generated run and its contract, judged as if they had been read. Nothing needs them after that, so they are dropped.
 fn judged(alloc: Global, run: Bytes, contract: Bytes) -> Result<Judgement, OutOfMemory>
     ensures files { IfOk result (JudgesFiles (run_in (Some run)) (Some contract ∷ [])) }
     ensures taken { IfOk result IsTakenIfAny }

@@ -3,8 +3,12 @@
 #![tactic(auto)]
 
 ghost use Rattle.std.specs.Prelude.{◌≡◌, ◌≤◌, ◌++◌, ◌∷◌, [], OnOk, OnErr, if◌then◌else◌, length, take, true};
+ghost use Rattle.spec_data.specs.Lists.{is_among};
 ghost use Rattle.spec_bitcoin.specs.Keys.{has_signed};
 
+mod cache;
+
+use crate::cache::{Cache, pair_fingerprint};
 use bm_hash_strings::Strings;
 use spec_data::OutOfMemory;
 use std::alloc::Global;
@@ -22,10 +26,22 @@ fn entry_of(key: &[u8; 33], digest: &[u8; 32]) -> [u8; 65]
     entry
 }
 
+// Whether an entry stands in the index. It is looked for first where the cache has it.
+fn stands(entries: &Strings, cache: &Cache, fingerprint: u64, entry: &[u8; 65]) -> bool
+    ensures { result ≡ is_among entry.now entries.now }
+{
+    if entries.stands_at(cache.find(fingerprint), entry) {
+        return true;
+    }
+    entries.has(entry)
+}
+
 /// The different pairs of key and digest, in order of signing. Whoever writes a run chooses the digests, so they stand in an index that
-/// is ordered: it answers in the time of a few comparisons, however they are chosen.
+/// is ordered: it answers in the time of a few comparisons, however they are chosen. Before it a cache is asked, which has
+/// nearly all pairs that weren't chosen to meet in it: most look-ups compare one pair.
 pub struct Book {
     entries: Strings,
+    cache: Cache,
     // The number behind that of the pair that was signed last. It only says where a pair is looked for first.
     next: usize,
 }
@@ -46,6 +62,7 @@ impl Drop for Book {
     fn drop(self) {
         let Book {
             entries: _,
+            cache: _,
             next: _,
         } = self;
     }
@@ -58,6 +75,7 @@ impl Book {
     {
         Book {
             entries: Strings::new(alloc),
+            cache: Cache::new(alloc),
             next: 0,
         }
     }
@@ -73,7 +91,12 @@ impl Book {
     pub fn has(&self, key: &[u8; 33], digest: &[u8; 32]) -> bool
         ensures { result ≡ has_signed self.now key.now digest.now }
     {
-        self.entries.has(&entry_of(key, digest))
+        stands(
+            &self.entries,
+            &self.cache,
+            pair_fingerprint(key, digest),
+            &entry_of(key, digest),
+        )
     }
 
     /// Whether these bytes are a key that has signed the digest. Bytes of another length are no key.
@@ -82,7 +105,12 @@ impl Book {
         ensures sized { result ≡ true → length key.now ≡ 33 }
     {
         match <[u8; 33]>::try_from(key) {
-            Ok(key) => self.entries.has(&entry_of(&key, digest)),
+            Ok(key) => stands(
+                &self.entries,
+                &self.cache,
+                pair_fingerprint(&key, digest),
+                &entry_of(&key, digest),
+            ),
             Err(_) => false,
         }
     }
@@ -99,6 +127,7 @@ impl Book {
             return Ok(());
         }
         let place = self.entries.add_once(&entry)?;
+        self.cache.note(pair_fingerprint(&key, &digest), place);
         self.next = place.wrapping_add(1);
         Ok(())
     }

@@ -1,5 +1,1 @@
-pub mod Fingerprints
-pub mod Updates
-pub mod Placing
 pub mod Posting
-pub mod Forgetting

@@ -9,7 +9,7 @@ ghost use Rattle.bm_exchange.specs.Exchanged.{digests_by};
 
 use crate::posts::Posts;
 use crate::promised::{Promised, add_promise, all_digests, digests_of, has_promised};
-use crate::strings::Strings;
+use bm_hash_strings::Strings;
 use spec_calculus::Advertised;
 use spec_data::{Name, OutOfMemory, Seq};
 use std::alloc::Global;

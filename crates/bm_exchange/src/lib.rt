@@ -3,12 +3,12 @@
 #![tactic(auto)]
 
 mod exchange;
-mod places;
 mod posts;
 mod promised;
 mod secrets;
 mod strings;
 
+pub use bm_hash_strings::Strings;
 pub use exchange::Exchange;
 pub use secrets::{held_secret, is_secret_long};
-pub use strings::{Strings, are_same};
+pub use strings::are_same;

@@ -3,8 +3,8 @@
 ghost use Rattle.std.specs.Prelude.{◌≡◌, ◌++◌, ◌∷◌, [], ◌≤◌, length, take, OnOk, OnErr};
 ghost use Rattle.spec_data.specs.Lists.{is_among};
 
-use crate::strings::Strings;
 use bm_hash::Pieces;
+use bm_hash_strings::Strings;
 use spec_data::OutOfMemory;
 use std::alloc::{AllocError, Global};
 use std::marker::Model;

@@ -6,7 +6,7 @@ ghost use Rattle.spec_run.specs.World.{is_promise_of, digests_at};
 ghost use Rattle.spec_run.specs.Committing.{used_digests};
 ghost use Rattle.bm_exchange.specs.Exchanged.{digests_by};
 
-use crate::strings::Strings;
+use bm_hash_strings::Strings;
 use spec_data::{Name, OutOfMemory, Seq};
 use std::alloc::Global;
 use std::marker::Model;

@@ -1,14 +1,14 @@
--- The mark of a byte string: a number that nearly always tells it from others. Nothing is asked of it but that a string has one.
+-- The fingerprint of a byte string: a number that nearly always tells it from others. Nothing is asked of it but that a string has one.
 use Rattle.std.specs.Prelude.{ℕ, ◌+◌, ◌*◌, ◌/◌, ◌%◌, ◌^◌, List, length, drop}
 use Rattle.std.specs.List.{fold}
 use Rattle.std.specs.Int.{from_le_bytes, w64, rotate_left}
 use Rattle.std.specs.Simd.{first_chunks}
 
--- a number mixed into a mark, as XXH64 does it
+-- a number mixed into a fingerprint, as XXH64 does it
 unfoldable pub mixed : ℕ → ℕ → ℕ
 mixed fingerprint number = (rotate_left w64 ((fingerprint + (number * 14029467366897019727) % 2 ^ 64) % 2 ^ 64) 31 * 11400714785074694791) % 2 ^ 64
 
--- a word of eight bytes mixed into a mark
+-- a word of eight bytes mixed into a fingerprint
 abbrev pub mixed_word : ℕ → List ℕ → ℕ
 mixed_word fingerprint word = mixed fingerprint (from_le_bytes w64 word)
 

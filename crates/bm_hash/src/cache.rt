@@ -18,7 +18,7 @@ const LONG: usize = 512;
 // The slots for long messages.
 const OF_LONG: usize = 512;
 
-// How many bytes of each end of a long message its mark is made of.
+// How many bytes of each end of a long message its fingerprint is made of.
 const END: usize = 128;
 
 // How many of the first messages are kept anew in more slots: they are the labels and scripts of the deposits of sixteen parties, which are
@@ -28,13 +28,13 @@ const FIRST: usize = 32;
 // What a slot has in which no place is kept.
 const FREE: u32 = u32::MAX;
 
-// The part of a slot that is a place. The byte above it is one of the mark: so a message that stands far back in memory isn't looked at
+// The part of a slot that is a place. The byte above it is one of the fingerprint: so a message that stands far back in memory isn't looked at
 // for nothing.
 const PLACE: u32 = 0xff_ffff;
 
-/// The places of messages that were asked for of late, each in a slot that the message's mark tells. They are hints: a place may be
+/// The places of messages that were asked for of late, each in a slot that the message's fingerprint tells. They are cache entries: a place may be
 /// missing, or another message may stand there, so whoever asks is told a place only where the message was seen to stand. No clause says
-/// what is kept. Of a mark its upper half is used.
+/// what is kept. Of a fingerprint its upper half is used.
 #[derive(Drop)]
 pub(crate) struct Cache {
     alloc: Global,
@@ -44,7 +44,7 @@ pub(crate) struct Cache {
     last: bool,
 }
 
-/// The mark by which the place of a message is kept. Of a long message the ends are mixed alone: they tell nearly all apart, and what stands
+/// The fingerprint by which the place of a message is kept. Of a long message the ends are mixed alone: they tell nearly all apart, and what stands
 /// at a place is compared whole.
 pub(crate) fn cache_key(message: &[u8]) -> u64 {
     if message.len() < LONG {
@@ -59,12 +59,12 @@ pub(crate) fn cache_key(message: &[u8]) -> u64 {
     fingerprint_of(prefix).rotate_left(1) ^ fingerprint_of(back)
 }
 
-// The half of a mark that tells the slot.
+// The half of a fingerprint that tells the slot.
 fn half_of(fingerprint: u64) -> u32 {
     (fingerprint >> 32) as u32
 }
 
-// The first slot of the row of a mark: rows follow one another as marks do.
+// The first slot of the row of a fingerprint: rows follow one another as fingerprints do.
 fn row_of(slots: &[u32], fingerprint: u32) -> usize {
     let rows = slots.len().saturating_sub(ROW) as u64;
     (u64::from(fingerprint).wrapping_mul(rows) >> 32) as usize
@@ -109,7 +109,7 @@ fn stands_at(messages: &Pieces, place: usize, message: &[u8]) -> bool
     messages.get(place) == message
 }
 
-// The first of the places in a row, of those kept for this mark, at which the message stands.
+// The first of the places in a row, of those kept for this fingerprint, at which the message stands.
 fn place_in(row: &[u32], messages: &Pieces, fingerprint: u32, message: &[u8]) -> Option<usize>
     ensures { IfSome result (λ place. slice_index_or messages.now place [] ≡ message.now) }
 {
@@ -175,7 +175,7 @@ impl Cache {
         }
     }
 
-    /// The place of a message of this mark, where one is kept at which it stands.
+    /// The place of a message of this fingerprint, where one is kept at which it stands.
     pub(crate) fn place_of(
         &self,
         messages: &Pieces,
@@ -217,7 +217,7 @@ impl Cache {
         }
     }
 
-    /// Keeps the place of a message anew, whose hint was lost: one that is asked for often would else be hashed each time.
+    /// Keeps the place of a message anew, whose entry was lost: one that is asked for often would else be hashed each time.
     pub(crate) fn renew(&mut self, fingerprint: u64, message: &[u8], place: usize) {
         self.note(fingerprint, message.len(), place);
         self.follow(place);
@@ -258,7 +258,7 @@ impl Cache {
         }
     }
 
-    /// Keeps the place of the last message, which has this mark.
+    /// Keeps the place of the last message, which has this fingerprint.
     pub(crate) fn note_last(&mut self, fingerprint: u64, message: &[u8], messages: &Pieces) {
         if message.len() < LONG {
             self.spread(messages);

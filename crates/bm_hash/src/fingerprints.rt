@@ -1,9 +1,9 @@
-//! The marks of byte strings: numbers that nearly always tell them apart.
+//! The fingerprints of byte strings: numbers that nearly always tell them apart.
 
 ghost use Rattle.std.specs.Prelude.{◌≡◌};
 ghost use Rattle.bm_hash.specs.Fingerprints as spec;
 
-// A number mixed into a mark, as XXH64 does it: a product spreads bits upwards alone, so the turn between the two brings the highest down.
+// A number mixed into a fingerprint, as XXH64 does it: a product spreads bits upwards alone, so the turn between the two brings the highest down.
 #[tactic(auto, unfolding(crate::specs::Fingerprints::mixed))]
 fn mixed(fingerprint: u64, number: u64) -> u64
     ensures { result ≡ spec.mixed fingerprint number }
@@ -14,7 +14,7 @@ fn mixed(fingerprint: u64, number: u64) -> u64
         .wrapping_mul(0x9E37_79B1_85EB_CA87)
 }
 
-/// The mark of a byte string: its length, its words of eight bytes and the bytes behind them, mixed in turn.
+/// The fingerprint of a byte string: its length, its words of eight bytes and the bytes behind them, mixed in turn.
 #[tactic(auto, unfolding(crate::specs::Fingerprints::fingerprint_of))]
 pub fn fingerprint_of(bytes: &[u8]) -> u64
     ensures { result ≡ spec.fingerprint_of bytes.now }

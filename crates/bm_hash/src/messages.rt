@@ -152,7 +152,7 @@ fn digest_ahead(
     digest_at(index, place)
 }
 
-// The digest of a message, if a hint leads to the place where it stands.
+// The digest of a message, if a cache entry leads to the place where it stands.
 fn known_digest(
     messages: &Pieces,
     index: &IndexMap<Key, usize>,
@@ -200,7 +200,7 @@ impl<H: Hash32 + Drop> Trail<H> {
         &self.hasher
     }
 
-    // The digest of a message of this mark that stands on a trail on which nothing collided. To hash it once more would change nothing.
+    // The digest of a message of this fingerprint that stands on a trail on which nothing collided. To hash it once more would change nothing.
     fn recall(&mut self, fingerprint: u64, message: &[u8]) -> Option<[u8; 32]>
         ensures same { self.new ≡ self.old }
         ensures digest { IfSome result (λ d. d ≡ H.digest_of self.old.hasher message.now) }
@@ -240,7 +240,7 @@ impl<H: Hash32 + Drop> Trail<H> {
         noted_digest(&self.messages, &self.index, &self.cache, message)
     }
 
-    // The digest of a message of this mark as the hash function gives it; the message is then on the trail.
+    // The digest of a message of this fingerprint as the hash function gives it; the message is then on the trail.
     fn hash_anew(&mut self, fingerprint: u64, message: &[u8]) -> Result<[u8; 32], TrailError>
         ensures digest { IfOk result (λ d. d ≡ H.digest_of self.old.hasher message.now) }
         ensures trail { Hashes H.digest_of self.old self.new (message.now ∷ []) result }

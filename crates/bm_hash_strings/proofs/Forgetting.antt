@@ -14,8 +14,8 @@ use Rattle.std.proofs.lemmas.List.{get_or_append_left, length-append}
 use Rattle.std.proofs.Math.Seq.{get_or-append_seam}
 use Rattle.bm_hash.proofs.Evidence.{place_push, place_within}
 use Rattle.bm_hash_strings.specs.declared.places.Places.{Places}
-use Rattle.bm_hash_strings.specs.Placed.{IsPlaced, IsMarked, IsOther, fingerprint_of, first_place, marked_at, found_at, place_by, placed_at, is_place}
-use Rattle.bm_hash_strings.proofs.Updates.{marked_there, marked_elsewhere, found_there, found_elsewhere}
+use Rattle.bm_hash_strings.specs.Placed.{IsPlaced, HasFingerprint, IsOther, fingerprint_of, first_place, place_by_fingerprint, found_at, place_by, placed_at, is_place}
+use Rattle.bm_hash_strings.proofs.Updates.{fingerprint_there, fingerprint_elsewhere, found_there, found_elsewhere}
 
 -- what was asked of a look-up's answer is so of what is looked up
 pub told : (o found : Option ℕ) (place n : ℕ) (r b : Bool) → found ≡ o → place ≡ n → r ≡ is_place found place → r ≡ b → is_place o n ≡ b
@@ -53,33 +53,33 @@ module _ (prefix : List (List ℕ)) (s : List ℕ) (places : Places) (is : IsPla
   last : get_or (prefix ++ s ∷ []) (length prefix) [] ≡ s
   last = get_or-append_seam prefix s [] []
 
-  -- a mark that isn't at the last place is within the prefix
-  before_this : (m p : ℕ) → marked_at places.marked m ≡ Some p → (p ≡ length prefix → ⊥) → IsMarked prefix m p
+  -- a fingerprint that isn't at the last place is within the prefix
+  before_this : (m p : ℕ) → place_by_fingerprint places.by_fingerprint m ≡ Some p → (p ≡ length prefix → ⊥) → HasFingerprint prefix m p
   before_this m p h other = by (p == length prefix) refl
     where
-      old : IsMarked (prefix ++ s ∷ []) m p
+      old : HasFingerprint (prefix ++ s ∷ []) m p
       old = is.fingerprints m p h
 
-      by : (b : Bool) → p == length prefix ≡ b → IsMarked prefix m p
+      by : (b : Bool) → p == length prefix ≡ b → HasFingerprint prefix m p
       by true e = absurd (other (grind arith))
       by false e =
           let within = old.within in
           let lt : p < length prefix = grind (arith, within, longer, e) in record {
             within = lt;
-            marked = sym (ap fingerprint_of (get_or_append_left prefix (s ∷ []) [] p lt)) ∙ old.marked;
+            by_fingerprint = sym (ap fingerprint_of (get_or_append_left prefix (s ∷ []) [] p lt)) ∙ old.by_fingerprint;
           }
 
-  -- the last place has the mark of the last string
-  fingerprint_last : (m p : ℕ) → marked_at places.marked m ≡ Some p → p ≡ length prefix → fingerprint_of s ≡ m
-  fingerprint_last m p h e = sym (ap fingerprint_of (ap (λ k. get_or (prefix ++ s ∷ []) k []) e ∙ last)) ∙ (is.fingerprints m p h).marked
+  -- the last place has the fingerprint of the last string
+  fingerprint_last : (m p : ℕ) → place_by_fingerprint places.by_fingerprint m ≡ Some p → p ≡ length prefix → fingerprint_of s ≡ m
+  fingerprint_last m p h e = sym (ap fingerprint_of (ap (λ k. get_or (prefix ++ s ∷ []) k []) e ∙ last)) ∙ (is.fingerprints m p h).by_fingerprint
 
   -- a string among the others that isn't the last is within the prefix
   other_before_this : (index : BTreeMap ℕ ℕ) (q : List ℕ) (k : ℕ) → found_at places.others q ≡ Some k → (k ≡ length prefix → ⊥)
-      → ((p : ℕ) → p < k → marked_at places.marked (fingerprint_of q) ≡ Some p → marked_at index (fingerprint_of q) ≡ Some p)
+      → ((p : ℕ) → p < k → place_by_fingerprint places.by_fingerprint (fingerprint_of q) ≡ Some p → place_by_fingerprint index (fingerprint_of q) ≡ Some p)
       → IsOther prefix index q k
   other_before_this index q k h other keeps = by (k == length prefix) refl
     where
-      old : IsOther (prefix ++ s ∷ []) places.marked q k
+      old : IsOther (prefix ++ s ∷ []) places.by_fingerprint q k
       old = is.behind q k h
 
       by : (b : Bool) → k == length prefix ≡ b → IsOther prefix index q k
@@ -90,7 +90,7 @@ module _ (prefix : List (List ℕ)) (s : List ℕ) (places : Places) (is : IsPla
             within = lt;
             there = sym (get_or_append_left prefix (s ∷ []) [] k lt) ∙ old.there;
             first = old.first;
-            marked = keeps old.first old.behind old.marked;
+            by_fingerprint = keeps old.first old.behind old.by_fingerprint;
             behind = old.behind;
           }
 
@@ -119,46 +119,46 @@ module _ (prefix : List (List ℕ)) (s : List ℕ) (places : Places) (is : IsPla
   place_prefix q (Some p) other h =
       ap (λ x. cond (bytes_eq x q) (Some p) other) (sym (get_or_append_left prefix (s ∷ []) [] p (h p refl)))
 
-  -- ---- where the last string is the first of its mark
+  -- ---- where the last string is the first of its fingerprint
 
-  pub forgotten_marked : (after : BTreeMap ℕ ℕ) (m : ℕ) → m ≡ fingerprint_of s → is_place (marked_at places.marked m) (length prefix) ≡ true
-      → tree.UpdatesBy nat_cmp (λ k. nat_cmp m k) places.marked after None
-      → IsPlaced prefix (record { marked = after; others = places.others })
-  forgotten_marked after m of first updates = record {
+  pub forgotten_fingerprint : (after : BTreeMap ℕ ℕ) (m : ℕ) → m ≡ fingerprint_of s → is_place (place_by_fingerprint places.by_fingerprint m) (length prefix) ≡ true
+      → tree.UpdatesBy nat_cmp (λ k. nat_cmp m k) places.by_fingerprint after None
+      → IsPlaced prefix (record { by_fingerprint = after; others = places.others })
+  forgotten_fingerprint after m of first updates = record {
     at = λ q. by q (m == fingerprint_of q) refl;
     fingerprints = λ k p h. of_fingerprint k p (m == k) refl h;
     behind = λ q k h. of_string q k (m == fingerprint_of q) refl h;
   }
     where
-      here : marked_at places.marked m ≡ Some (length prefix)
-      here = by_first (marked_at places.marked m) first
+      here : place_by_fingerprint places.by_fingerprint m ≡ Some (length prefix)
+      here = by_first (place_by_fingerprint places.by_fingerprint m) first
         where
           by_first : (o : Option ℕ) → is_place o (length prefix) ≡ true → o ≡ Some (length prefix)
           by_first None h = cc
           by_first (Some p) h = let same : p ≡ length prefix = grind arith in ap Some same
 
-      here_of : (k : ℕ) → m == k ≡ true → marked_at places.marked k ≡ Some (length prefix)
-      here_of k h = let same : m ≡ k = grind arith in subst (λ j. marked_at places.marked j ≡ Some (length prefix)) same here
+      here_of : (k : ℕ) → m == k ≡ true → place_by_fingerprint places.by_fingerprint k ≡ Some (length prefix)
+      here_of k h = let same : m ≡ k = grind arith in subst (λ j. place_by_fingerprint places.by_fingerprint j ≡ Some (length prefix)) same here
 
-      gone : (k : ℕ) → m == k ≡ true → marked_at after k ≡ None
-      gone k h = marked_there m places.marked after None updates k (grind arith)
+      gone : (k : ℕ) → m == k ≡ true → place_by_fingerprint after k ≡ None
+      gone k h = fingerprint_there m places.by_fingerprint after None updates k (grind arith)
 
-      stays : (k : ℕ) → m == k ≡ false → marked_at after k ≡ marked_at places.marked k
-      stays k h = marked_elsewhere m places.marked after None updates k h
+      stays : (k : ℕ) → m == k ≡ false → place_by_fingerprint after k ≡ place_by_fingerprint places.by_fingerprint k
+      stays k h = fingerprint_elsewhere m places.by_fingerprint after None updates k h
 
-      elsewhere : (k p : ℕ) → m == k ≡ false → marked_at places.marked k ≡ Some p → p ≡ length prefix → ⊥
+      elsewhere : (k p : ℕ) → m == k ≡ false → place_by_fingerprint places.by_fingerprint k ≡ Some p → p ≡ length prefix → ⊥
       elsewhere k p h found e = let same : m ≡ k = of ∙ fingerprint_last k p found e in absurd (grind arith)
 
       apart : (q : List ℕ) → m == fingerprint_of q ≡ false → (b : Bool) → bytes_eq s q ≡ b → b ≡ false
       apart q h false t = refl
       apart q h true t = let same : m ≡ fingerprint_of q = of ∙ ap fingerprint_of ((bytes_eq-Decides s q).0 t) in absurd (grind arith)
 
-      -- no string of this mark is left
+      -- no string of this fingerprint is left
       none_left : (q : List ℕ) → m == fingerprint_of q ≡ true → first_place prefix q ≡ None
       none_left q h = by_place (first_place prefix q) refl
         where
-          marked : placed_at (prefix ++ s ∷ []) places q ≡ cond (bytes_eq s q) (Some (length prefix)) (found_at places.others q)
-          marked =
+          by_fingerprint : placed_at (prefix ++ s ∷ []) places q ≡ cond (bytes_eq s q) (Some (length prefix)) (found_at places.others q)
+          by_fingerprint =
               ap (λ o. place_by (prefix ++ s ∷ []) q o (found_at places.others q)) (here_of (fingerprint_of q) h)
               ∙ ap (λ x. cond (bytes_eq x q) (Some (length prefix)) (found_at places.others q)) last
 
@@ -166,16 +166,16 @@ module _ (prefix : List (List ℕ)) (s : List ℕ) (places : Places) (is : IsPla
           by_same j there true t =
               let is_last : Some (length prefix) ≡ Some j =
               sym (ap (λ b. cond b (Some (length prefix)) (found_at places.others q)) t)
-              ∙ sym marked ∙ whole_same q t ∙ ap (λ o. option_or o (Some (length prefix))) there in
+              ∙ sym by_fingerprint ∙ whole_same q t ∙ ap (λ o. option_or o (Some (length prefix))) there in
               let same : length prefix ≡ j = cc in
               let lt = low q j there in
               omega (arith, lt, same)
           by_same j there false t =
               let found : found_at places.others q ≡ Some j =
               sym (ap (λ b. cond b (Some (length prefix)) (found_at places.others q)) t)
-              ∙ sym marked ∙ whole_apart q t ∙ there in
+              ∙ sym by_fingerprint ∙ whole_apart q t ∙ there in
               let old = is.behind q j found in
-              let first_is : Some old.first ≡ Some (length prefix) = sym old.marked ∙ here_of (fingerprint_of q) h in
+              let first_is : Some old.first ≡ Some (length prefix) = sym old.by_fingerprint ∙ here_of (fingerprint_of q) h in
               let same : old.first ≡ length prefix = cc in
               let after_it = old.behind in
               let lt = low q j there in
@@ -186,22 +186,22 @@ module _ (prefix : List (List ℕ)) (s : List ℕ) (places : Places) (is : IsPla
           by_place (Some j) t = absurd (by_same j t (bytes_eq s q) refl)
 
       by : (q : List ℕ) (b : Bool) → m == fingerprint_of q ≡ b
-          → place_by prefix q (marked_at after (fingerprint_of q)) (found_at places.others q) ≡ first_place prefix q
+          → place_by prefix q (place_by_fingerprint after (fingerprint_of q)) (found_at places.others q) ≡ first_place prefix q
       by q true h = ap (λ o. place_by prefix q o (found_at places.others q)) (gone (fingerprint_of q) h) ∙ sym (none_left q h)
       by q false h =
           ap (λ o. place_by prefix q o (found_at places.others q)) (stays (fingerprint_of q) h)
-          ∙ place_prefix q (marked_at places.marked (fingerprint_of q)) (found_at places.others q)
+          ∙ place_prefix q (place_by_fingerprint places.by_fingerprint (fingerprint_of q)) (found_at places.others q)
           (λ p found. (before_this (fingerprint_of q) p found (elsewhere (fingerprint_of q) p h found)).within)
           ∙ whole_apart q (apart q h (bytes_eq s q) refl)
 
-      of_fingerprint : (k p : ℕ) (b : Bool) → m == k ≡ b → marked_at after k ≡ Some p → IsMarked prefix k p
+      of_fingerprint : (k p : ℕ) (b : Bool) → m == k ≡ b → place_by_fingerprint after k ≡ Some p → HasFingerprint prefix k p
       of_fingerprint k p true h found = let none = gone k h in cc
       of_fingerprint k p false h found = let before = sym (stays k h) ∙ found in before_this k p before (elsewhere k p h before)
 
       of_string : (q : List ℕ) (k : ℕ) (b : Bool) → m == fingerprint_of q ≡ b → found_at places.others q ≡ Some k → IsOther prefix after q k
       of_string q k true h found =
           let old = is.behind q k found in
-          let first_is : Some old.first ≡ Some (length prefix) = sym old.marked ∙ here_of (fingerprint_of q) h in
+          let first_is : Some old.first ≡ Some (length prefix) = sym old.by_fingerprint ∙ here_of (fingerprint_of q) h in
           let same : old.first ≡ length prefix = cc in
           let after_it = old.behind in
           let within = old.within in
@@ -211,24 +211,24 @@ module _ (prefix : List (List ℕ)) (s : List ℕ) (places : Places) (is : IsPla
           (λ e. let same : m ≡ fingerprint_of q = of ∙ ap fingerprint_of (last_other q k found e) in absurd (grind arith))
           (λ p lt there. stays (fingerprint_of q) h ∙ there)
 
-  -- ---- where an earlier string has its mark
+  -- ---- where an earlier string has its fingerprint
 
-  module _ (later : is_place (marked_at places.marked (fingerprint_of s)) (length prefix) ≡ false) where
-    elsewhere : (m p : ℕ) → marked_at places.marked m ≡ Some p → p ≡ length prefix → ⊥
+  module _ (later : is_place (place_by_fingerprint places.by_fingerprint (fingerprint_of s)) (length prefix) ≡ false) where
+    elsewhere : (m p : ℕ) → place_by_fingerprint places.by_fingerprint m ≡ Some p → p ≡ length prefix → ⊥
     elsewhere m p h e =
-        let there : marked_at places.marked (fingerprint_of s) ≡ Some (length prefix) =
-        ap (marked_at places.marked) (fingerprint_last m p h e) ∙ h ∙ ap Some e in
+        let there : place_by_fingerprint places.by_fingerprint (fingerprint_of s) ≡ Some (length prefix) =
+        ap (place_by_fingerprint places.by_fingerprint) (fingerprint_last m p h e) ∙ h ∙ ap Some e in
         let same : is_place (Some (length prefix)) (length prefix) ≡ false = sym (ap (λ o. is_place o (length prefix)) there) ∙ later in
         absurd (grind arith)
 
-    fingerprints_prefix : (m p : ℕ) → marked_at places.marked m ≡ Some p → IsMarked prefix m p
+    fingerprints_prefix : (m p : ℕ) → place_by_fingerprint places.by_fingerprint m ≡ Some p → HasFingerprint prefix m p
     fingerprints_prefix m p h = before_this m p h (elsewhere m p h)
 
-    firsts : (q : List ℕ) (p : ℕ) → marked_at places.marked (fingerprint_of q) ≡ Some p → p < length prefix
+    firsts : (q : List ℕ) (p : ℕ) → place_by_fingerprint places.by_fingerprint (fingerprint_of q) ≡ Some p → p < length prefix
     firsts q p h = (fingerprints_prefix (fingerprint_of q) p h).within
 
     -- the string itself, by what the index has of it
-    itself : (o other : Option ℕ) → marked_at places.marked (fingerprint_of s) ≡ o → is_place other (length prefix) ≡ false
+    itself : (o other : Option ℕ) → place_by_fingerprint places.by_fingerprint (fingerprint_of s) ≡ o → is_place other (length prefix) ≡ false
         → place_by (prefix ++ s ∷ []) s o other ≡ option_or (first_place prefix s) (Some (length prefix))
         → place_by (prefix ++ s ∷ []) s o other ≡ first_place prefix s
     itself None other h no_end e = earlier (first_place prefix s) None (length prefix) e refl
@@ -245,7 +245,7 @@ module _ (prefix : List (List ℕ)) (s : List ℕ) (places : Places) (is : IsPla
     forgotten_nothing no_end = record {
       at = λ q. by q (bytes_eq s q) refl;
       fingerprints = fingerprints_prefix;
-      behind = λ q k h. other_before_this places.marked q k h (not_last q k h) (λ p lt m. m);
+      behind = λ q k h. other_before_this places.by_fingerprint q k h (not_last q k h) (λ p lt m. m);
     }
       where
         not_last : (q : List ℕ) (k : ℕ) → found_at places.others q ≡ Some k → k ≡ length prefix → ⊥
@@ -256,7 +256,7 @@ module _ (prefix : List (List ℕ)) (s : List ℕ) (places : Places) (is : IsPla
 
         of_itself : placed_at (prefix ++ s ∷ []) places s ≡ first_place prefix s
         of_itself =
-            itself (marked_at places.marked (fingerprint_of s)) (found_at places.others s) refl no_end
+            itself (place_by_fingerprint places.by_fingerprint (fingerprint_of s)) (found_at places.others s) refl no_end
             (whole_same s ((bytes_eq-Decides s s).1 refl))
 
         by : (q : List ℕ) (b : Bool) → bytes_eq s q ≡ b → placed_at prefix places q ≡ first_place prefix q
@@ -268,7 +268,7 @@ module _ (prefix : List (List ℕ)) (s : List ℕ) (places : Places) (is : IsPla
     -- it stands among the others
     pub forgotten_other : (after : BTreeMap (Vec ℕ) ℕ) → is_place (found_at places.others s) (length prefix) ≡ true
         → tree.UpdatesBy (λ x y. slice_cmp nat_cmp x.items y.items) (λ k. slice_cmp nat_cmp s k.items) places.others after None
-        → IsPlaced prefix (record { marked = places.marked; others = after })
+        → IsPlaced prefix (record { by_fingerprint = places.by_fingerprint; others = after })
     forgotten_other after at_end updates = record {
       at = λ q. by q (bytes_eq s q) refl;
       fingerprints = fingerprints_prefix;
@@ -289,7 +289,7 @@ module _ (prefix : List (List ℕ)) (s : List ℕ) (places : Places) (is : IsPla
         stays q h = found_elsewhere s places.others after None updates q h
 
         -- its place before, and its place now
-        forgets : (o : Option ℕ) → marked_at places.marked (fingerprint_of s) ≡ o
+        forgets : (o : Option ℕ) → place_by_fingerprint places.by_fingerprint (fingerprint_of s) ≡ o
             → place_by (prefix ++ s ∷ []) s o (Some (length prefix)) ≡ option_or (first_place prefix s) (Some (length prefix))
             → place_by (prefix ++ s ∷ []) s o None ≡ first_place prefix s
         forgets None h e = earlier (first_place prefix s) None (length prefix) e refl
@@ -300,28 +300,28 @@ module _ (prefix : List (List ℕ)) (s : List ℕ) (places : Places) (is : IsPla
             by_first true t = earlier (first_place prefix s) (Some p) (length prefix) t (not_here p (length prefix) (firsts s p h))
             by_first false t = sym (nowhere (first_place prefix s) (length prefix) (low s) t)
 
-        of_itself : place_by (prefix ++ s ∷ []) s (marked_at places.marked (fingerprint_of s)) None ≡ first_place prefix s
+        of_itself : place_by (prefix ++ s ∷ []) s (place_by_fingerprint places.by_fingerprint (fingerprint_of s)) None ≡ first_place prefix s
         of_itself =
-            forgets (marked_at places.marked (fingerprint_of s)) refl
-            (sym (ap (place_by (prefix ++ s ∷ []) s (marked_at places.marked (fingerprint_of s))) here)
+            forgets (place_by_fingerprint places.by_fingerprint (fingerprint_of s)) refl
+            (sym (ap (place_by (prefix ++ s ∷ []) s (place_by_fingerprint places.by_fingerprint (fingerprint_of s))) here)
             ∙ whole_same s ((bytes_eq-Decides s s).1 refl))
 
         by : (q : List ℕ) (b : Bool) → bytes_eq s q ≡ b
-            → place_by prefix q (marked_at places.marked (fingerprint_of q)) (found_at after q) ≡ first_place prefix q
+            → place_by prefix q (place_by_fingerprint places.by_fingerprint (fingerprint_of q)) (found_at after q) ≡ first_place prefix q
         by q true h =
-            ap (place_by prefix q (marked_at places.marked (fingerprint_of q))) (gone q h)
+            ap (place_by prefix q (place_by_fingerprint places.by_fingerprint (fingerprint_of q))) (gone q h)
             ∙ place_prefix q _ None (firsts q)
-            ∙ subst (λ l. place_by (prefix ++ s ∷ []) l (marked_at places.marked (fingerprint_of l)) None ≡ first_place prefix l)
+            ∙ subst (λ l. place_by (prefix ++ s ∷ []) l (place_by_fingerprint places.by_fingerprint (fingerprint_of l)) None ≡ first_place prefix l)
             ((bytes_eq-Decides s q).0 h) of_itself
         by q false h =
-            ap (place_by prefix q (marked_at places.marked (fingerprint_of q))) (stays q h)
+            ap (place_by prefix q (place_by_fingerprint places.by_fingerprint (fingerprint_of q))) (stays q h)
             ∙ place_prefix q _ _ (firsts q) ∙ whole_apart q h
 
-        of_string : (q : List ℕ) (k : ℕ) (b : Bool) → bytes_eq s q ≡ b → found_at after q ≡ Some k → IsOther prefix places.marked q k
+        of_string : (q : List ℕ) (k : ℕ) (b : Bool) → bytes_eq s q ≡ b → found_at after q ≡ Some k → IsOther prefix places.by_fingerprint q k
         of_string q k true h found = let none = gone q h in cc
         of_string q k false h found =
             let before = sym (stays q h) ∙ found in
-            other_before_this places.marked q k before (apart q k h before) (λ p lt m. m)
+            other_before_this places.by_fingerprint q k before (apart q k h before) (λ p lt m. m)
           where
             apart : (q : List ℕ) (k : ℕ) → bytes_eq s q ≡ false → found_at places.others q ≡ Some k → k ≡ length prefix → ⊥
             apart q k h before e = let same = (bytes_eq-Decides s q).1 (last_other q k before e) in cc

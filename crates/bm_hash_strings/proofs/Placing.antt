@@ -16,8 +16,8 @@ use Rattle.std.proofs.Math.Seq.{get_or-append_seam}
 use Rattle.spec_data.specs.Lists.{is_among}
 use Rattle.bm_hash.proofs.Evidence.{place_push}
 use Rattle.bm_hash_strings.specs.declared.places.Places.{Places}
-use Rattle.bm_hash_strings.specs.Placed.{IsPlaced, IsMarked, IsOther, fingerprint_of, first_place, marked_at, found_at, place_by, placed_at}
-use Rattle.bm_hash_strings.proofs.Updates.{marked_there, marked_elsewhere, found_there, found_elsewhere}
+use Rattle.bm_hash_strings.specs.Placed.{IsPlaced, HasFingerprint, IsOther, fingerprint_of, first_place, place_by_fingerprint, found_at, place_by, placed_at}
+use Rattle.bm_hash_strings.proofs.Updates.{fingerprint_there, fingerprint_elsewhere, found_there, found_elsewhere}
 
 -- ---- whether a string is there
 
@@ -40,15 +40,15 @@ unplaced strings q h = by_place (first_place strings q) (placed-among strings q 
     by_place None e = refl
     by_place (Some k) e = cc
 
--- where no string has the mark
+-- where no string has the fingerprint
 pub among-none : (strings : List (List ℕ)) (places : Places) (q : List ℕ) → IsPlaced strings places
-    → marked_at places.marked (fingerprint_of q) ≡ None → is_among q strings ≡ false
+    → place_by_fingerprint places.by_fingerprint (fingerprint_of q) ≡ None → is_among q strings ≡ false
 among-none strings places q is none =
     sym (placed-among strings q) ∙ ap is_some (sym (is.at q) ∙ ap (λ o. place_by strings q o (found_at places.others q)) none)
 
--- where a string has the mark
+-- where a string has the fingerprint
 pub among-some : (strings : List (List ℕ)) (places : Places) (q : List ℕ) (p : ℕ) → IsPlaced strings places
-    → marked_at places.marked (fingerprint_of q) ≡ Some p
+    → place_by_fingerprint places.by_fingerprint (fingerprint_of q) ≡ Some p
     → is_among q strings ≡ cond (bytes_eq (get_or strings p []) q) true (is_some (found_at places.others q))
 among-some strings places q p is some =
     sym (placed-among strings q)
@@ -61,26 +61,26 @@ among-some strings places q p is some =
 
 -- ---- the same entries in another map
 
--- another map tells the same of each mark
-pub placed_same-marked : (strings : List (List ℕ)) (places : Places) (after : BTreeMap ℕ ℕ) → IsPlaced strings places
-    → ((m : ℕ) → marked_at after m ≡ marked_at places.marked m) → IsPlaced strings (record { marked = after; others = places.others })
-placed_same-marked strings places after is still = record {
+-- another map tells the same of each fingerprint
+pub placed_same-by_fingerprint : (strings : List (List ℕ)) (places : Places) (after : BTreeMap ℕ ℕ) → IsPlaced strings places
+    → ((m : ℕ) → place_by_fingerprint after m ≡ place_by_fingerprint places.by_fingerprint m) → IsPlaced strings (record { by_fingerprint = after; others = places.others })
+placed_same-by_fingerprint strings places after is still = record {
   at = λ q. ap (λ o. place_by strings q o (found_at places.others q)) (still (fingerprint_of q)) ∙ is.at q;
   fingerprints = λ m p h. is.fingerprints m p (sym (still m) ∙ h);
   behind = λ q k h.
       let old = is.behind q k h in
-      record { within = old.within; there = old.there; first = old.first; marked = still (fingerprint_of q) ∙ old.marked; behind = old.behind };
+      record { within = old.within; there = old.there; first = old.first; by_fingerprint = still (fingerprint_of q) ∙ old.by_fingerprint; behind = old.behind };
 }
 
--- another map of marks, or of strings, has the same entries
-pub placed_still-marked : (strings : List (List ℕ)) (places : Places) (after : BTreeMap ℕ ℕ) → IsPlaced strings places
-    → after.entries ≡ places.marked.entries → IsPlaced strings (record { marked = after; others = places.others })
-placed_still-marked strings places after is same = placed_same-marked strings places after is (λ m. ap (lookup _) same)
+-- another map of fingerprints, or of strings, has the same entries
+pub placed_still-by_fingerprint : (strings : List (List ℕ)) (places : Places) (after : BTreeMap ℕ ℕ) → IsPlaced strings places
+    → after.entries ≡ places.by_fingerprint.entries → IsPlaced strings (record { by_fingerprint = after; others = places.others })
+placed_still-by_fingerprint strings places after is same = placed_same-by_fingerprint strings places after is (λ m. ap (lookup _) same)
 
 pub placed_still-others : (strings : List (List ℕ)) (places : Places) (after : BTreeMap (Vec ℕ) ℕ) → IsPlaced strings places
-    → after.entries ≡ places.others.entries → IsPlaced strings (record { marked = places.marked; others = after })
+    → after.entries ≡ places.others.entries → IsPlaced strings (record { by_fingerprint = places.by_fingerprint; others = after })
 placed_still-others strings places after is same = record {
-  at = λ q. ap (place_by strings q (marked_at places.marked (fingerprint_of q))) (still q) ∙ is.at q;
+  at = λ q. ap (place_by strings q (place_by_fingerprint places.by_fingerprint (fingerprint_of q))) (still q) ∙ is.at q;
   fingerprints = is.fingerprints;
   behind = λ q k h. is.behind q k (sym (still q) ∙ h);
 }
@@ -96,43 +96,43 @@ pub cut_back : (strings : List (List ℕ)) (s : List ℕ) (next cut : List (List
 cut_back strings s next cut place here longer shorter =
     shorter ∙ ap (take place) longer ∙ take-append-le place strings (s ∷ []) (omega (arith, here)) ∙ take_all place strings (omega (arith, here))
 
--- ---- a mark is put in the index, unless it is there
+-- ---- a fingerprint is put in the index, unless it is there
 
 module _ (strings : List (List ℕ)) (places : Places) (is : IsPlaced strings places) (after : BTreeMap ℕ ℕ) (m first place : ℕ)
-    (had : first ≡ unwrap_or (marked_at places.marked m) place)
-    (updates : tree.UpdatesBy nat_cmp (λ k. nat_cmp m k) places.marked after (Some first)) where
+    (had : first ≡ unwrap_or (place_by_fingerprint places.by_fingerprint m) place)
+    (updates : tree.UpdatesBy nat_cmp (λ k. nat_cmp m k) places.by_fingerprint after (Some first)) where
   -- it was there
-  pub placed_kept : (first ≡ place → ⊥) → IsPlaced strings (record { marked = after; others = places.others })
-  placed_kept other = placed_same-marked strings places after is (λ n. by_place (marked_at places.marked m) refl n (m == n) refl)
+  pub placed_kept : (first ≡ place → ⊥) → IsPlaced strings (record { by_fingerprint = after; others = places.others })
+  placed_kept other = placed_same-by_fingerprint strings places after is (λ n. by_place (place_by_fingerprint places.by_fingerprint m) refl n (m == n) refl)
     where
-      by_place : (o : Option ℕ) → marked_at places.marked m ≡ o → (n : ℕ) (b : Bool) → m == n ≡ b → marked_at after n ≡ marked_at places.marked n
+      by_place : (o : Option ℕ) → place_by_fingerprint places.by_fingerprint m ≡ o → (n : ℕ) (b : Bool) → m == n ≡ b → place_by_fingerprint after n ≡ place_by_fingerprint places.by_fingerprint n
       by_place None h n b e = absurd (other (had ∙ ap (λ o. unwrap_or o place) h))
-      by_place (Some p) h n false e = marked_elsewhere m places.marked after (Some first) updates n e
+      by_place (Some p) h n false e = fingerprint_elsewhere m places.by_fingerprint after (Some first) updates n e
       by_place (Some p) h n true e =
           let same : m ≡ n = grind arith in
           let at : first ≡ p = had ∙ ap (λ o. unwrap_or o place) h in
-          marked_there m places.marked after (Some first) updates n same ∙ ap Some at ∙ subst (λ k. Some p ≡ marked_at places.marked k) same (sym h)
+          fingerprint_there m places.by_fingerprint after (Some first) updates n same ∙ ap Some at ∙ subst (λ k. Some p ≡ place_by_fingerprint places.by_fingerprint k) same (sym h)
 
   -- it wasn't
-  pub none_had : place ≡ length strings → first ≡ place → is_some (marked_at places.marked m) ≡ false
-  none_had here same = by_place (marked_at places.marked m) refl
+  pub none_had : place ≡ length strings → first ≡ place → is_some (place_by_fingerprint places.by_fingerprint m) ≡ false
+  none_had here same = by_place (place_by_fingerprint places.by_fingerprint m) refl
     where
-      by_place : (o : Option ℕ) → marked_at places.marked m ≡ o → is_some o ≡ false
+      by_place : (o : Option ℕ) → place_by_fingerprint places.by_fingerprint m ≡ o → is_some o ≡ false
       by_place None h = refl
       by_place (Some p) h =
           let lt = (is.fingerprints m p h).within in
           let at : first ≡ p = had ∙ ap (λ o. unwrap_or o place) h in
           absurd (omega (arith, lt, at, here, same))
 
--- a string whose mark wasn't there isn't there
+-- a string whose fingerprint wasn't there isn't there
 pub first_new : (strings : List (List ℕ)) (places : Places) → IsPlaced strings places → (s : List ℕ) (after : BTreeMap ℕ ℕ) (m first place : ℕ)
-    → m ≡ fingerprint_of s → first ≡ unwrap_or (marked_at places.marked m) place
-    → tree.UpdatesBy nat_cmp (λ k. nat_cmp m k) places.marked after (Some first)
+    → m ≡ fingerprint_of s → first ≡ unwrap_or (place_by_fingerprint places.by_fingerprint m) place
+    → tree.UpdatesBy nat_cmp (λ k. nat_cmp m k) places.by_fingerprint after (Some first)
     → place ≡ length strings → first ≡ place → is_among s strings ≡ false
 first_new strings places is s after m first place of had updates here same =
     among-none strings places s is (
-    none (marked_at places.marked (fingerprint_of s))
-    (ap (λ n. is_some (marked_at places.marked n)) (sym of) ∙ none_had strings places is after m first place had updates here same))
+    none (place_by_fingerprint places.by_fingerprint (fingerprint_of s))
+    (ap (λ n. is_some (place_by_fingerprint places.by_fingerprint n)) (sym of) ∙ none_had strings places is after m first place had updates here same))
   where
     none : (o : Option ℕ) → is_some o ≡ false → o ≡ None
     none None h = refl
@@ -163,9 +163,9 @@ module _ (old now : List (List ℕ)) (q : List ℕ) (o : Option ℕ) (added : Bo
 module _ (strings : List (List ℕ)) (places : Places) (is : IsPlaced strings places) (s : List ℕ) where
   -- the index tells the same of longer strings
   same_place : (q : List ℕ) → placed_at (strings ++ s ∷ []) places q ≡ first_place strings q
-  same_place q = by (marked_at places.marked (fingerprint_of q)) refl ∙ is.at q
+  same_place q = by (place_by_fingerprint places.by_fingerprint (fingerprint_of q)) refl ∙ is.at q
     where
-      by : (o : Option ℕ) → marked_at places.marked (fingerprint_of q) ≡ o
+      by : (o : Option ℕ) → place_by_fingerprint places.by_fingerprint (fingerprint_of q) ≡ o
           → place_by (strings ++ s ∷ []) q o (found_at places.others q) ≡ place_by strings q o (found_at places.others q)
       by None h = refl
       by (Some p) h =
@@ -175,16 +175,16 @@ module _ (strings : List (List ℕ)) (places : Places) (is : IsPlaced strings pl
   longer : length (strings ++ s ∷ []) ≡ length strings + 1
   longer = length-append strings (s ∷ [])
 
-  fingerprints_more : (m p : ℕ) → marked_at places.marked m ≡ Some p → IsMarked (strings ++ s ∷ []) m p
+  fingerprints_more : (m p : ℕ) → place_by_fingerprint places.by_fingerprint m ≡ Some p → HasFingerprint (strings ++ s ∷ []) m p
   fingerprints_more m p h =
       let old = is.fingerprints m p h in
       let lt = old.within in record {
         within = omega (arith, lt, longer);
-        marked = ap fingerprint_of (get_or_append_left strings (s ∷ []) [] p lt) ∙ old.marked;
+        by_fingerprint = ap fingerprint_of (get_or_append_left strings (s ∷ []) [] p lt) ∙ old.by_fingerprint;
       }
 
   others_more : (index : BTreeMap ℕ ℕ) (q : List ℕ) (k : ℕ) → found_at places.others q ≡ Some k
-      → ((p : ℕ) → marked_at places.marked (fingerprint_of q) ≡ Some p → marked_at index (fingerprint_of q) ≡ Some p)
+      → ((p : ℕ) → place_by_fingerprint places.by_fingerprint (fingerprint_of q) ≡ Some p → place_by_fingerprint index (fingerprint_of q) ≡ Some p)
       → IsOther (strings ++ s ∷ []) index q k
   others_more index q k h keeps =
       let old = is.behind q k h in
@@ -192,7 +192,7 @@ module _ (strings : List (List ℕ)) (places : Places) (is : IsPlaced strings pl
         within = omega (arith, lt, longer);
         there = get_or_append_left strings (s ∷ []) [] k lt ∙ old.there;
         first = old.first;
-        marked = keeps old.first old.marked;
+        by_fingerprint = keeps old.first old.by_fingerprint;
         behind = old.behind;
       }
 
@@ -227,41 +227,41 @@ module _ (strings : List (List ℕ)) (places : Places) (is : IsPlaced strings pl
   placed_again next there e = rw e (record {
     at = λ q. same_place q ∙ sym (by q (bytes_eq s q) refl);
     fingerprints = fingerprints_more;
-    behind = λ q k h. others_more places.marked q k h (λ p m. m);
+    behind = λ q k h. others_more places.by_fingerprint q k h (λ p m. m);
   })
     where
       by : (q : List ℕ) (b : Bool) → bytes_eq s q ≡ b → first_place (strings ++ s ∷ []) q ≡ first_place strings q
       by q false h = push_apart q h
       by q true h = push_again q (placed-among strings q ∙ ap (λ l. is_among l strings) (sym ((bytes_eq-Decides s q).0 h)) ∙ there)
 
-  -- ---- a string of a new mark
+  -- ---- a string of a new fingerprint
 
-  pub placed_marked : (next : List (List ℕ)) (after : BTreeMap ℕ ℕ) (m place : ℕ) → m ≡ fingerprint_of s → is_some (marked_at places.marked m) ≡ false
+  pub placed_fingerprint : (next : List (List ℕ)) (after : BTreeMap ℕ ℕ) (m place : ℕ) → m ≡ fingerprint_of s → is_some (place_by_fingerprint places.by_fingerprint m) ≡ false
       → place ≡ length strings → next ≡ strings ++ s ∷ []
-      → tree.UpdatesBy nat_cmp (λ k. nat_cmp m k) places.marked after (Some place)
-      → IsPlaced next (record { marked = after; others = places.others })
-  placed_marked next after m place of free here e updates = rw e (record {
+      → tree.UpdatesBy nat_cmp (λ k. nat_cmp m k) places.by_fingerprint after (Some place)
+      → IsPlaced next (record { by_fingerprint = after; others = places.others })
+  placed_fingerprint next after m place of free here e updates = rw e (record {
     at = λ q. by q (m == fingerprint_of q) refl;
     fingerprints = λ n p h. of_fingerprint n p (m == n) refl h;
     behind = λ q k h. others_more after q k h (λ p is_first. kept q p (m == fingerprint_of q) refl is_first);
   })
     where
-      none : marked_at places.marked m ≡ None
-      none = by_some (marked_at places.marked m) free
+      none : place_by_fingerprint places.by_fingerprint m ≡ None
+      none = by_some (place_by_fingerprint places.by_fingerprint m) free
         where
           by_some : (o : Option ℕ) → is_some o ≡ false → o ≡ None
           by_some None h = refl
           by_some (Some p) h = cc
 
-      no_fingerprint : (n : ℕ) → m == n ≡ true → marked_at places.marked n ≡ None
-      no_fingerprint n h = let same : m ≡ n = grind arith in subst (λ k. marked_at places.marked k ≡ None) same none
+      no_fingerprint : (n : ℕ) → m == n ≡ true → place_by_fingerprint places.by_fingerprint n ≡ None
+      no_fingerprint n h = let same : m ≡ n = grind arith in subst (λ k. place_by_fingerprint places.by_fingerprint k ≡ None) same none
 
       no_other : (q : List ℕ) → m == fingerprint_of q ≡ true → found_at places.others q ≡ None
       no_other q h = by_found (found_at places.others q) refl
         where
           by_found : (o : Option ℕ) → found_at places.others q ≡ o → o ≡ None
           by_found None found = refl
-          by_found (Some k) found = let first = (is.behind q k found).marked in let absent = no_fingerprint (fingerprint_of q) h in cc
+          by_found (Some k) found = let first = (is.behind q k found).by_fingerprint in let absent = no_fingerprint (fingerprint_of q) h in cc
 
       seam : get_or (strings ++ s ∷ []) place [] ≡ s
       seam = ap (λ k. get_or (strings ++ s ∷ []) k []) here ∙ get_or-append_seam strings s [] []
@@ -272,10 +272,10 @@ module _ (strings : List (List ℕ)) (places : Places) (is : IsPlaced strings pl
       by_end q false h absent = sym (push_apart q h ∙ absent)
 
       by : (q : List ℕ) (b : Bool) → m == fingerprint_of q ≡ b
-          → place_by (strings ++ s ∷ []) q (marked_at after (fingerprint_of q)) (found_at places.others q) ≡ first_place (strings ++ s ∷ []) q
+          → place_by (strings ++ s ∷ []) q (place_by_fingerprint after (fingerprint_of q)) (found_at places.others q) ≡ first_place (strings ++ s ∷ []) q
       by q true h =
-          let there : marked_at after (fingerprint_of q) ≡ Some place =
-          marked_there m places.marked after (Some place) updates (fingerprint_of q) (grind arith) in
+          let there : place_by_fingerprint after (fingerprint_of q) ≡ Some place =
+          fingerprint_there m places.by_fingerprint after (Some place) updates (fingerprint_of q) (grind arith) in
           let absent : first_place strings q ≡ None =
           sym (is.at q) ∙ ap (λ o. place_by strings q o (found_at places.others q)) (no_fingerprint (fingerprint_of q) h) in
           ap (λ o. place_by (strings ++ s ∷ []) q o (found_at places.others q)) there
@@ -284,7 +284,7 @@ module _ (strings : List (List ℕ)) (places : Places) (is : IsPlaced strings pl
           ∙ by_end q (bytes_eq s q) refl absent
       by q false h =
           ap (λ o. place_by (strings ++ s ∷ []) q o (found_at places.others q))
-          (marked_elsewhere m places.marked after (Some place) updates (fingerprint_of q) h)
+          (fingerprint_elsewhere m places.by_fingerprint after (Some place) updates (fingerprint_of q) h)
           ∙ same_place q ∙ sym (push_apart q (fingerprints_apart (bytes_eq s q) refl))
         where
           fingerprints_apart : (b : Bool) → bytes_eq s q ≡ b → b ≡ false
@@ -293,35 +293,35 @@ module _ (strings : List (List ℕ)) (places : Places) (is : IsPlaced strings pl
               let same : m ≡ fingerprint_of q = of ∙ ap fingerprint_of ((bytes_eq-Decides s q).0 t) in
               absurd (grind arith)
 
-      of_fingerprint : (n p : ℕ) (b : Bool) → m == n ≡ b → marked_at after n ≡ Some p → IsMarked (strings ++ s ∷ []) n p
+      of_fingerprint : (n p : ℕ) (b : Bool) → m == n ≡ b → place_by_fingerprint after n ≡ Some p → HasFingerprint (strings ++ s ∷ []) n p
       of_fingerprint n p true h found =
           let same : m ≡ n = grind arith in
-          let there = marked_there m places.marked after (Some place) updates n same in
+          let there = fingerprint_there m places.by_fingerprint after (Some place) updates n same in
           let at_end : place ≡ p = cc in record {
             within = omega (arith, longer, here, at_end);
-            marked = ap (λ k. fingerprint_of (get_or (strings ++ s ∷ []) k [])) (sym at_end) ∙ ap fingerprint_of seam ∙ sym of ∙ same;
+            by_fingerprint = ap (λ k. fingerprint_of (get_or (strings ++ s ∷ []) k [])) (sym at_end) ∙ ap fingerprint_of seam ∙ sym of ∙ same;
           }
-      of_fingerprint n p false h found = fingerprints_more n p (sym (marked_elsewhere m places.marked after (Some place) updates n h) ∙ found)
+      of_fingerprint n p false h found = fingerprints_more n p (sym (fingerprint_elsewhere m places.by_fingerprint after (Some place) updates n h) ∙ found)
 
-      kept : (q : List ℕ) (p : ℕ) (b : Bool) → m == fingerprint_of q ≡ b → marked_at places.marked (fingerprint_of q) ≡ Some p
-          → marked_at after (fingerprint_of q) ≡ Some p
+      kept : (q : List ℕ) (p : ℕ) (b : Bool) → m == fingerprint_of q ≡ b → place_by_fingerprint places.by_fingerprint (fingerprint_of q) ≡ Some p
+          → place_by_fingerprint after (fingerprint_of q) ≡ Some p
       kept q p true h first = let absent = no_fingerprint (fingerprint_of q) h in cc
-      kept q p false h first = marked_elsewhere m places.marked after (Some place) updates (fingerprint_of q) h ∙ first
+      kept q p false h first = fingerprint_elsewhere m places.by_fingerprint after (Some place) updates (fingerprint_of q) h ∙ first
 
   -- the same, as the index is told of it
   pub placed_first : (next : List (List ℕ)) (after : BTreeMap ℕ ℕ) (m first place : ℕ) → m ≡ fingerprint_of s
-      → first ≡ unwrap_or (marked_at places.marked m) place → tree.UpdatesBy nat_cmp (λ k. nat_cmp m k) places.marked after (Some first)
-      → place ≡ length strings → next ≡ strings ++ s ∷ [] → first ≡ place → IsPlaced next (record { marked = after; others = places.others })
+      → first ≡ unwrap_or (place_by_fingerprint places.by_fingerprint m) place → tree.UpdatesBy nat_cmp (λ k. nat_cmp m k) places.by_fingerprint after (Some first)
+      → place ≡ length strings → next ≡ strings ++ s ∷ [] → first ≡ place → IsPlaced next (record { by_fingerprint = after; others = places.others })
   placed_first next after m first place of had updates here e same =
-      placed_marked next after m place of (none_had strings places is after m first place had updates here same) here e
-      (subst (λ n. tree.UpdatesBy nat_cmp (λ k. nat_cmp m k) places.marked after (Some n)) same updates)
+      placed_fingerprint next after m place of (none_had strings places is after m first place had updates here same) here e
+      (subst (λ n. tree.UpdatesBy nat_cmp (λ k. nat_cmp m k) places.by_fingerprint after (Some n)) same updates)
 
-  -- ---- a string of a mark that is there
+  -- ---- a string of a fingerprint that is there
 
   pub placed_other : (next : List (List ℕ)) (after : BTreeMap (Vec ℕ) ℕ) (key : List ℕ) (place : ℕ) → is_among s strings ≡ false
-      → is_some (marked_at places.marked (fingerprint_of s)) ≡ true → key ≡ s → place ≡ length strings → next ≡ strings ++ s ∷ []
+      → is_some (place_by_fingerprint places.by_fingerprint (fingerprint_of s)) ≡ true → key ≡ s → place ≡ length strings → next ≡ strings ++ s ∷ []
       → tree.UpdatesBy (λ x y. slice_cmp nat_cmp x.items y.items) (λ k. slice_cmp nat_cmp key k.items) places.others after (Some place)
-      → IsPlaced next (record { marked = places.marked; others = after })
+      → IsPlaced next (record { by_fingerprint = places.by_fingerprint; others = after })
   placed_other next after key place new taken alike here e updates = rw e (record {
     at = λ q. by q (bytes_eq s q) refl;
     fingerprints = fingerprints_more;
@@ -331,8 +331,8 @@ module _ (strings : List (List ℕ)) (places : Places) (is : IsPlaced strings pl
       keyed : (q : List ℕ) (b : Bool) → bytes_eq s q ≡ b → bytes_eq key q ≡ b
       keyed q b h = ap (λ l. bytes_eq l q) alike ∙ h
 
-      first : (p : ℕ) × (marked_at places.marked (fingerprint_of s) ≡ Some p)
-      first = by_some (marked_at places.marked (fingerprint_of s)) taken
+      first : (p : ℕ) × (place_by_fingerprint places.by_fingerprint (fingerprint_of s) ≡ Some p)
+      first = by_some (place_by_fingerprint places.by_fingerprint (fingerprint_of s)) taken
         where
           by_some : (o : Option ℕ) → is_some o ≡ true → (p : ℕ) × (o ≡ Some p)
           by_some None h = cc
@@ -348,26 +348,26 @@ module _ (strings : List (List ℕ)) (places : Places) (is : IsPlaced strings pl
           ∙ not_first (bytes_eq (get_or strings first.0 []) s) refl
 
       itself : (q : List ℕ) → s ≡ q → found_at after q ≡ Some place
-          → place_by (strings ++ s ∷ []) q (marked_at places.marked (fingerprint_of q)) (found_at after q) ≡ Some place
+          → place_by (strings ++ s ∷ []) q (place_by_fingerprint places.by_fingerprint (fingerprint_of q)) (found_at after q) ≡ Some place
       itself q same found =
           subst (λ l. found_at after l ≡ Some place
-          → place_by (strings ++ s ∷ []) l (marked_at places.marked (fingerprint_of l)) (found_at after l) ≡ Some place) same
+          → place_by (strings ++ s ∷ []) l (place_by_fingerprint places.by_fingerprint (fingerprint_of l)) (found_at after l) ≡ Some place) same
           (λ f. ap (λ o. place_by (strings ++ s ∷ []) s o (found_at after s)) first.1
           ∙ ap (λ b. cond b (Some first.0) (found_at after s)) there ∙ f) found
 
       by : (q : List ℕ) (b : Bool) → bytes_eq s q ≡ b
-          → place_by (strings ++ s ∷ []) q (marked_at places.marked (fingerprint_of q)) (found_at after q) ≡ first_place (strings ++ s ∷ []) q
+          → place_by (strings ++ s ∷ []) q (place_by_fingerprint places.by_fingerprint (fingerprint_of q)) (found_at after q) ≡ first_place (strings ++ s ∷ []) q
       by q true h =
           let same = (bytes_eq-Decides s q).0 h in
           let none : first_place strings q ≡ None = ap (first_place strings) (sym same) ∙ unplaced strings s new in
           itself q same (found_there key places.others after (Some place) updates q (keyed q true h))
           ∙ ap Some here ∙ sym (push_first q h none)
       by q false h =
-          ap (place_by (strings ++ s ∷ []) q (marked_at places.marked (fingerprint_of q)))
+          ap (place_by (strings ++ s ∷ []) q (place_by_fingerprint places.by_fingerprint (fingerprint_of q)))
           (found_elsewhere key places.others after (Some place) updates q (keyed q false h))
           ∙ same_place q ∙ sym (push_apart q h)
 
-      of_string : (q : List ℕ) (k : ℕ) (b : Bool) → bytes_eq s q ≡ b → found_at after q ≡ Some k → IsOther (strings ++ s ∷ []) places.marked q k
+      of_string : (q : List ℕ) (k : ℕ) (b : Bool) → bytes_eq s q ≡ b → found_at after q ≡ Some k → IsOther (strings ++ s ∷ []) places.by_fingerprint q k
       of_string q k true h found =
           let same = (bytes_eq-Decides s q).0 h in
           let at = found_there key places.others after (Some place) updates q (keyed q true h) in
@@ -376,8 +376,8 @@ module _ (strings : List (List ℕ)) (places : Places) (is : IsPlaced strings pl
             within = omega (arith, longer, here, at_end);
             there = ap (λ n. get_or (strings ++ s ∷ []) n []) (sym at_end ∙ here) ∙ get_or-append_seam strings s [] [] ∙ same;
             first = first.0;
-            marked = ap (λ l. marked_at places.marked (fingerprint_of l)) (sym same) ∙ first.1;
+            by_fingerprint = ap (λ l. place_by_fingerprint places.by_fingerprint (fingerprint_of l)) (sym same) ∙ first.1;
             behind = omega (arith, lt, here, at_end);
           }
       of_string q k false h found =
-          others_more places.marked q k (sym (found_elsewhere key places.others after (Some place) updates q (keyed q false h)) ∙ found) (λ p m. m)
+          others_more places.by_fingerprint q k (sym (found_elsewhere key places.others after (Some place) updates q (keyed q false h)) ∙ found) (λ p m. m)

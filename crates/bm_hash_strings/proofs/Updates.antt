@@ -1,4 +1,4 @@
--- What the two parts of an index have at any mark and any string, after a change at one.
+-- What the two parts of an index have at any fingerprint and any string, after a change at one.
 use Rattle.std.proofs.Common.{◌≡◌, ℕ, List, Bool, true, false, cond, Option}
 use Rattle.std.proofs.Common.{refl, subst, arith}
 use Rattle.std.specs.Prelude.{◌==◌, nat_lt}
@@ -12,9 +12,9 @@ use Rattle.std.specs.BTreeMap.{BTreeMap}
 use Rattle.std.specs.Global.{Vec}
 use Rattle.std.proofs.lemmas.Slice.Eq.{bytes_eq-Decides}
 use Rattle.spec_data.proofs.MapLemmas.{other_entries, apart_in_order}
-use Rattle.bm_hash_strings.specs.Placed.{marked_at, found_at}
+use Rattle.bm_hash_strings.specs.Placed.{place_by_fingerprint, found_at}
 
--- ---- marks
+-- ---- fingerprints
 
 order_equal : (less same : Bool) → is_eq (cond less Less (cond same Equal Greater)) ≡ true → same ≡ true
 order_equal true same h = cc
@@ -24,15 +24,15 @@ order_equal false false h = cc
 same_fingerprint : (m q : ℕ) → is_eq (nat_cmp m q) ≡ true → m ≡ q
 same_fingerprint m q h = let same : m == q ≡ true = order_equal (nat_lt m q) (m == q) h in grind arith
 
-pub marked_there : (m : ℕ) (index after : BTreeMap ℕ ℕ) (w : Option ℕ)
-    → tree.UpdatesBy nat_cmp (λ k. nat_cmp m k) index after w → (q : ℕ) → m ≡ q → marked_at after q ≡ w
-marked_there m index after w updates q same = subst (λ k. marked_at after k ≡ w) same updates.1
+pub fingerprint_there : (m : ℕ) (index after : BTreeMap ℕ ℕ) (w : Option ℕ)
+    → tree.UpdatesBy nat_cmp (λ k. nat_cmp m k) index after w → (q : ℕ) → m ≡ q → place_by_fingerprint after q ≡ w
+fingerprint_there m index after w updates q same = subst (λ k. place_by_fingerprint after k ≡ w) same updates.1
 
-pub marked_elsewhere : (m : ℕ) (index after : BTreeMap ℕ ℕ) (w : Option ℕ)
-    → tree.UpdatesBy nat_cmp (λ k. nat_cmp m k) index after w → (q : ℕ) → m == q ≡ false → marked_at after q ≡ marked_at index q
-marked_elsewhere m index after w updates q apart = by (is_eq (nat_cmp m q)) refl
+pub fingerprint_elsewhere : (m : ℕ) (index after : BTreeMap ℕ ℕ) (w : Option ℕ)
+    → tree.UpdatesBy nat_cmp (λ k. nat_cmp m k) index after w → (q : ℕ) → m == q ≡ false → place_by_fingerprint after q ≡ place_by_fingerprint index q
+fingerprint_elsewhere m index after w updates q apart = by (is_eq (nat_cmp m q)) refl
   where
-    by : (b : Bool) → is_eq (nat_cmp m q) ≡ b → marked_at after q ≡ marked_at index q
+    by : (b : Bool) → is_eq (nat_cmp m q) ≡ b → place_by_fingerprint after q ≡ place_by_fingerprint index q
     by false h = updates.2 q h
     by true h = let same = same_fingerprint m q h in absurd (grind arith)
 

@@ -17,7 +17,7 @@ first_number q = cond (nat_le 8 (length q)) (from_le_bytes w64 (take 8 q)) 0
 unfoldable pub last_number : List ℕ → ℕ
 last_number q = cond (nat_le 8 (length q)) (from_le_bytes w64 (drop (length q - 8) q)) 0
 
--- the mark of a string: their sum in 64 bits
+-- the fingerprint of a string: their sum in 64 bits
 unfoldable pub fingerprint_of : List ℕ → ℕ
 fingerprint_of q = (first_number q + last_number q) % 2 ^ 64
 
@@ -25,40 +25,40 @@ fingerprint_of q = (first_number q + last_number q) % 2 ^ 64
 abbrev pub first_place : List (List ℕ) → List ℕ → Option ℕ
 first_place strings q = place_of (λ m. m) strings q
 
--- where the first string of this mark stands
-abbrev pub marked_at : BTreeMap ℕ ℕ → ℕ → Option ℕ
-marked_at index m = tree.get_by (λ k. nat_cmp m k) index
+-- where the first string of this fingerprint stands
+abbrev pub place_by_fingerprint : BTreeMap ℕ ℕ → ℕ → Option ℕ
+place_by_fingerprint index m = tree.get_by (λ k. nat_cmp m k) index
 
--- where a string stands whose mark an earlier one has
+-- where a string stands whose fingerprint an earlier one has
 abbrev pub found_at : BTreeMap (Vec ℕ) ℕ → List ℕ → Option ℕ
 found_at index q = tree.get_by (λ k. slice_cmp nat_cmp q k.items) index
 
--- where a string stands, by the place of the first of its mark and by its place among the others
+-- where a string stands, by the place of the first of its fingerprint and by its place among the others
 abbrev pub place_by : List (List ℕ) → List ℕ → Option ℕ → Option ℕ → Option ℕ
 place_by strings q None other = None
 place_by strings q (Some p) other = cond (bytes_eq (get_or strings p []) q) (Some p) other
 
 abbrev pub placed_at : List (List ℕ) → Places → List ℕ → Option ℕ
-placed_at strings places q = place_by strings q (marked_at places.marked (fingerprint_of q)) (found_at places.others q)
+placed_at strings places q = place_by strings q (place_by_fingerprint places.by_fingerprint (fingerprint_of q)) (found_at places.others q)
 
--- a place has a string of this mark
-pub record IsMarked (strings : List (List ℕ)) (m p : ℕ) : Type 0 where
+-- a place has a string of this fingerprint
+pub record HasFingerprint (strings : List (List ℕ)) (m p : ℕ) : Type 0 where
   pub within : p < length strings
-  pub marked : fingerprint_of (get_or strings p []) ≡ m
+  pub by_fingerprint : fingerprint_of (get_or strings p []) ≡ m
 
--- a string stands at this place, behind the first string of its mark
+-- a string stands at this place, behind the first string of its fingerprint
 pub record IsOther (strings : List (List ℕ)) (index : BTreeMap ℕ ℕ) (q : List ℕ) (k : ℕ) : Type 0 where
   pub within : k < length strings
   pub there : get_or strings k [] ≡ q
   pub first : ℕ
-  pub marked : marked_at index (fingerprint_of q) ≡ Some first
+  pub by_fingerprint : place_by_fingerprint index (fingerprint_of q) ≡ Some first
   pub behind : first < k
 
 -- the index tells of each string where it stands first
 pub record IsPlaced (strings : List (List ℕ)) (places : Places) : Type 0 where
   pub at : (q : List ℕ) → placed_at strings places q ≡ first_place strings q
-  pub fingerprints : (m p : ℕ) → marked_at places.marked m ≡ Some p → IsMarked strings m p
-  pub behind : (q : List ℕ) (k : ℕ) → found_at places.others q ≡ Some k → IsOther strings places.marked q k
+  pub fingerprints : (m p : ℕ) → place_by_fingerprint places.by_fingerprint m ≡ Some p → HasFingerprint strings m p
+  pub behind : (q : List ℕ) (k : ℕ) → found_at places.others q ≡ Some k → IsOther strings places.by_fingerprint q k
 
 -- whether the place is this one
 abbrev pub is_place : Option ℕ → ℕ → Bool

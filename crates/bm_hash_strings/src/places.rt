@@ -4,16 +4,17 @@ ghost use Rattle.std.specs.Prelude.{◌≡◌, Some, IfOk, OnErr};
 ghost use Rattle.std.specs.BTreeMap.{UpdatesBy};
 ghost use Rattle.std.specs.Option.{option_copied, unwrap_or};
 ghost use Rattle.std.specs.Ordering.{nat_cmp};
-ghost use Rattle.bm_hash_strings.specs.Placed.{first_number, last_number, fingerprint_of, marked_at, found_at, is_place};
+ghost use Rattle.bm_hash_strings.specs.Placed.{first_number, last_number, fingerprint_of, place_by_fingerprint, found_at, is_place};
 
 use spec_data::OutOfMemory;
 use std::collections::BTreeMap;
 
-/// Where strings stand first. A string is found by its mark, a number of 64 bits, and where an earlier string has this mark, by all its
-/// bytes. So nearly every look-up compares numbers alone, and strings that are chosen to have one mark cost what all would without marks.
+/// Where strings stand first. A string is found by its fingerprint, a number of 64 bits, and where an earlier string has this fingerprint,
+/// by all its bytes. So nearly every look-up compares numbers alone, and strings that are chosen to have one fingerprint cost what all
+/// would without fingerprints.
 #[derive(Drop)]
 pub(crate) struct Places {
-    pub(crate) marked: BTreeMap<u64, usize>,
+    pub(crate) by_fingerprint: BTreeMap<u64, usize>,
     pub(crate) others: BTreeMap<Vec<u8>, usize>,
 }
 
@@ -37,8 +38,8 @@ fn last_number(string: &[u8]) -> u64
     }
 }
 
-/// The mark of a string: the sum of the numbers that its first eight bytes and its last eight are. Whoever chooses strings may choose
-/// them of one mark; they are then found by all their bytes.
+/// The fingerprint of a string: the sum of the numbers that its first eight bytes and its last eight are. Whoever chooses strings may
+/// choose them of one fingerprint; they are then found by all their bytes.
 #[tactic(auto, unfolding(crate::specs::Placed::fingerprint_of))]
 pub(crate) fn fingerprint_of(string: &[u8]) -> u64
     ensures { result ≡ fingerprint_of string.now }
@@ -46,17 +47,17 @@ pub(crate) fn fingerprint_of(string: &[u8]) -> u64
     first_number(string).wrapping_add(last_number(string))
 }
 
-/// Puts the place of a mark in the index, unless an earlier string has it; the place that the mark has then.
+/// Puts the place of a fingerprint in the index, unless an earlier string has it; the place that the fingerprint has then.
 pub(crate) fn add_fingerprint(
-    marked: &mut BTreeMap<u64, usize>,
+    by_fingerprint: &mut BTreeMap<u64, usize>,
     fingerprint: u64,
     place: usize,
 ) -> Result<usize, OutOfMemory>
-    ensures first { IfOk result (λ first. first ≡ unwrap_or (marked_at marked.old fingerprint) place) }
-    ensures put { IfOk result (λ first. UpdatesBy nat_cmp (λ k. nat_cmp fingerprint k) marked.old marked.new (Some first)) }
-    ensures err { OnErr result (marked.new.entries ≡ marked.old.entries) }
+    ensures first { IfOk result (λ first. first ≡ unwrap_or (place_by_fingerprint by_fingerprint.old fingerprint) place) }
+    ensures put { IfOk result (λ first. UpdatesBy nat_cmp (λ k. nat_cmp fingerprint k) by_fingerprint.old by_fingerprint.new (Some first)) }
+    ensures err { OnErr result (by_fingerprint.new.entries ≡ by_fingerprint.old.entries) }
 {
-    let first = *marked.entry(fingerprint)?.or_insert(place);
+    let first = *by_fingerprint.entry(fingerprint)?.or_insert(place);
     Ok(first)
 }
 
@@ -70,14 +71,17 @@ pub(crate) fn is_here(found: Option<&usize>, place: usize) -> bool
     }
 }
 
-/// The place of the first string of a mark.
-pub(crate) fn marked_place(marked: &BTreeMap<u64, usize>, fingerprint: u64) -> Option<usize>
-    ensures { result ≡ marked_at marked.now fingerprint }
+/// The place of the first string of a fingerprint.
+pub(crate) fn fingerprint_place(
+    by_fingerprint: &BTreeMap<u64, usize>,
+    fingerprint: u64,
+) -> Option<usize>
+    ensures { result ≡ place_by_fingerprint by_fingerprint.now fingerprint }
 {
-    marked.get(&fingerprint).copied()
+    by_fingerprint.get(&fingerprint).copied()
 }
 
-/// The place of a string whose mark an earlier one has.
+/// The place of a string whose fingerprint an earlier one has.
 pub(crate) fn other_place(others: &BTreeMap<Vec<u8>, usize>, string: &[u8]) -> Option<usize>
     ensures { result ≡ found_at others.now string.now }
 {

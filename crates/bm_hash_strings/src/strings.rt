@@ -2,9 +2,11 @@
 
 ghost use Rattle.std.specs.Prelude.{List, ℕ, ◌≡◌, ◌++◌, ◌∷◌, [], ◌<◌, ◌≤◌, ◌-◌, true, false, if◌then◌else◌, length, not, take, is_some, IfOk, OnOk, OnErr};
 ghost use Rattle.spec_data.specs.Lists.{is_among};
-ghost use Rattle.bm_hash_strings.specs.Placed.{first_place, fingerprint_of, marked_at, stands_at, IsPlaced};
+ghost use Rattle.bm_hash_strings.specs.Placed.{first_place, fingerprint_of, place_by_fingerprint, stands_at, IsPlaced};
 
-use crate::places::{Places, add_fingerprint, fingerprint_of, is_here, marked_place, other_place};
+use crate::places::{
+    Places, add_fingerprint, fingerprint_of, fingerprint_place, is_here, other_place,
+};
 use bm_hash::Pieces;
 use spec_data::OutOfMemory;
 use std::alloc::{AllocError, Global};
@@ -45,7 +47,7 @@ impl Strings {
         ensures { result ≡ [] }
     {
         let places = Places {
-            marked: BTreeMap::new(alloc),
+            by_fingerprint: BTreeMap::new(alloc),
             others: BTreeMap::new(alloc),
         };
         Strings {
@@ -123,7 +125,7 @@ fn place_of(strings: &Pieces, places: &Places, string: &[u8]) -> Option<usize>
     requires placed { IsPlaced strings.now places.now }
     ensures { result ≡ first_place strings.now string.now }
 {
-    match marked_place(&places.marked, fingerprint_of(string)) {
+    match fingerprint_place(&places.by_fingerprint, fingerprint_of(string)) {
         Some(first) => {
             if strings.get(first) == string {
                 Some(first)
@@ -154,18 +156,19 @@ fn has_string(strings: &Pieces, places: &Places, string: &[u8]) -> bool
     is_there(strings, places, string)
 }
 
-// Adds a string if none has its mark, and tells whether it was added. The index is gone down once for both.
+// Adds a string if none has its fingerprint, and tells whether it was added. The index is gone down once for both.
 fn add_first(strings: &mut Pieces, places: &mut Places, string: &[u8]) -> Result<bool, OutOfMemory>
     requires placed { IsPlaced strings.old places.old }
     ensures ok { IfOk result (λ added. strings.new ≡ if added then strings.old ++ string.now ∷ [] else strings.old) }
-    ensures taken { IfOk result (λ added. added ≡ false → is_some (marked_at places.new.marked (fingerprint_of string.now)) ≡ true) }
+    ensures taken { IfOk result (λ added. added ≡ false → is_some (place_by_fingerprint places.new.by_fingerprint (fingerprint_of string.now)) ≡ true) }
     ensures new { IfOk result (λ added. added ≡ true → is_among string.now strings.old ≡ false) }
     ensures err { OnErr result (strings.new ≡ strings.old) }
     ensures placed { IsPlaced strings.new places.new }
 {
     let place = strings.len();
     strings.push(string)?;
-    let Ok(first) = add_fingerprint(&mut places.marked, fingerprint_of(string), place) else {
+    let Ok(first) = add_fingerprint(&mut places.by_fingerprint, fingerprint_of(string), place)
+    else {
         strings.truncate(place);
         return Err(AllocError);
     };
@@ -176,7 +179,7 @@ fn add_first(strings: &mut Pieces, places: &mut Places, string: &[u8]) -> Result
     Ok(false)
 }
 
-// Adds a string that isn't there, though another of its mark is.
+// Adds a string that isn't there, though another of its fingerprint is.
 fn add_other(
     alloc: Global,
     strings: &mut Pieces,
@@ -185,7 +188,7 @@ fn add_other(
 ) -> Result<(), OutOfMemory>
     requires placed { IsPlaced strings.old places.old }
     requires new { is_among string.now strings.old ≡ false }
-    requires taken { is_some (marked_at places.old.marked (fingerprint_of string.now)) ≡ true }
+    requires taken { is_some (place_by_fingerprint places.old.by_fingerprint (fingerprint_of string.now)) ≡ true }
     ensures ok { OnOk result (strings.new ≡ strings.old ++ string.now ∷ []) }
     ensures err { OnErr result (strings.new ≡ strings.old) }
     ensures placed { IsPlaced strings.new places.new }
@@ -265,8 +268,8 @@ fn forget_last(places: &mut Places, string: &[u8], place: usize)
     ensures { (prefix : List (List ℕ)) → place ≡ length prefix → IsPlaced (prefix ++ string.now ∷ []) places.old → IsPlaced prefix places.new }
 {
     let fingerprint = fingerprint_of(string);
-    if is_here(places.marked.get(&fingerprint), place) {
-        places.marked.remove(&fingerprint);
+    if is_here(places.by_fingerprint.get(&fingerprint), place) {
+        places.by_fingerprint.remove(&fingerprint);
     } else if is_here(places.others.get(string), place) {
         places.others.remove(string);
     }

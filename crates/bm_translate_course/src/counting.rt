@@ -31,7 +31,7 @@ fn with_more(count: u64, more: usize) -> Result<u64, OutOfMemory>
     count.checked_add(more as u64).ok_or(AllocError)
 }
 
-// How many steps there are of all events. They are taken from the opening on, and those of an event are let go before the next.
+// How many steps there are of all events. They are taken from the opening on, and those of an event are dropped before the next.
 fn count_all<H: Hash32 + Drop>(
     alloc: Global,
     trail: &Trail<H>,

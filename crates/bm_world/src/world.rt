@@ -125,7 +125,7 @@ impl<H: Hash32 + Drop> World<H> {
         &self.board
     }
 
-    /// The header and the records. What else the world holds is let go.
+    /// The header and the records. What else the world holds is dropped.
     pub fn into_records(self) -> (Header, Seq<Record>)
         ensures header { result.0 ≡ self.header }
         ensures records { result.1 ≡ self.trace }

@@ -73,7 +73,7 @@ impl Board {
         }
     }
 
-    /// The header, taken out. The other parts are let go.
+    /// The header, taken out. The other parts are dropped.
     pub fn into_header(self) -> Header
         ensures { result ≡ self.header }
     {

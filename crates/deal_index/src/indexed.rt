@@ -4,13 +4,13 @@ ghost use Rattle.std.specs.Prelude.{List, ℕ, Bool, true, ◌≡◌, ◌++◌, 
 ghost use Rattle.std.specs.List.{find, list_all};
 ghost use Rattle.std.specs.Option.{option_map};
 ghost use Rattle.std.specs.Str.{bytes_eq};
-ghost use Rattle.deal_index.specs.Places.{place_from, placed_at, IsIndex};
+ghost use Rattle.spec_data.specs.Lists.{are_different};
+ghost use Rattle.bm_hash_strings.specs.Placed.{first_place};
 
-use crate::places::{Places, add_last, place_of, stands_at};
-use spec_data::{Bytes, OutOfMemory, Seq};
+use bm_hash_strings::Strings;
+use spec_data::{OutOfMemory, Seq};
 use std::alloc::Global;
 use std::cell::Cell;
-use std::collections::BTreeMap;
 use std::marker::Model;
 
 /// What is found by a byte string.
@@ -25,10 +25,10 @@ pub trait Keyed {
 /// Items in order. The first of each key is found in the time of a few comparisons, however the keys are chosen; in the time of one, where
 /// keys that all differ are looked up in their order.
 pub struct Indexed<T: Keyed> {
-    alloc: Global,
     items: Seq<T>,
-    keys: Seq<Bytes>,
-    places: Places,
+    keys: Strings,
+    // whether the keys all differ
+    are_apart: bool,
     // the place behind the one found last, where the next key is looked for first
     next: Cell<usize>,
 }
@@ -36,61 +36,49 @@ pub struct Indexed<T: Keyed> {
 impl<T: Keyed> Model for Indexed<T> {
     ghost use Rattle.std.specs.Prelude.{◌≡◌, List, map, true};
     ghost use Rattle.std.specs.List.{list_all};
-    ghost use Rattle.deal_index.specs.Places.{IsIndex};
+    ghost use Rattle.spec_data.specs.Lists.{are_different};
 
     ghost Value = { List T };
 
     ghost view = { λ x. x.items };
 
-    ghost invariant = { λ x. IsIndex x.keys x.places × (x.keys ≡ map T.key_of x.items) × (list_all T.is_sized x.items ≡ true) };
+    ghost invariant = { λ x. (x.are_apart ≡ are_different x.keys) × (x.keys ≡ map T.key_of x.items) × (list_all T.is_sized x.items ≡ true) };
 }
 
 impl<T: Keyed + Drop> Drop for Indexed<T> {
     fn drop(self) {
         let Indexed {
-            alloc: _,
             items: _,
             keys: _,
-            places: _,
+            are_apart: _,
             next: _,
         } = self;
     }
 }
 
-// Adds a key at the end, and its place to the index.
-fn add_key(
-    alloc: Global,
-    keys: &mut Seq<Bytes>,
-    places: &mut Places,
-    key: Vec<u8>,
-) -> Result<(), OutOfMemory>
-    requires index { IsIndex keys.old places.old }
-    ensures ok { OnOk result (keys.new ≡ keys.old ++ key.items ∷ []) }
+// Adds a key at the end, and keeps whether all of them differ.
+fn add_key(keys: &mut Strings, are_apart: &mut bool, key: &[u8]) -> Result<(), OutOfMemory>
+    requires apart { are_apart.old ≡ are_different keys.old }
+    ensures ok { OnOk result (keys.new ≡ keys.old ++ key.now ∷ []) }
     ensures err { OnErr result (keys.new ≡ keys.old) }
-    ensures index { IsIndex keys.new places.new }
+    ensures apart { are_apart.new ≡ are_different keys.new }
 {
-    let place = keys.len();
-    keys.push(Bytes::of(key))?;
-    match add_last(alloc, keys.as_slice(), places) {
-        Ok(()) => Ok(()),
-        Err(error) => {
-            keys.truncate(place);
-            Err(error)
-        }
-    }
+    let is_new = keys.add_telling(key)?;
+    *are_apart = *are_apart && is_new;
+    Ok(())
 }
 
 // The place of the first key that is this one. It is first looked for where the next key is.
-fn find_place(keys: &[Bytes], places: &Places, next: &Cell<usize>, key: &[u8]) -> Option<usize>
-    requires index { IsIndex keys.now places.now }
-    ensures { result ≡ place_from 0 key.now keys.now }
+fn find_place(keys: &Strings, are_apart: bool, next: &Cell<usize>, key: &[u8]) -> Option<usize>
+    requires apart { are_apart ≡ are_different keys.now }
+    ensures { result ≡ first_place keys.now key.now }
 {
     let place = next.get();
-    if places.are_apart && stands_at(keys, place, key) {
+    if are_apart && keys.stands_at(place, key) {
         next.set(place.wrapping_add(1));
         return Some(place);
     }
-    let found = place_of(keys, places, key);
+    let found = keys.place(key);
     if let Some(place) = found {
         next.set(place.wrapping_add(1));
     }
@@ -109,16 +97,10 @@ impl<T: Keyed + Drop> Indexed<T> {
     pub fn new(alloc: Global) -> Indexed<T>
         ensures { result ≡ [] }
     {
-        let places = Places {
-            marked: BTreeMap::new(alloc),
-            others: BTreeMap::new(alloc),
-            are_apart: true,
-        };
         Indexed {
-            alloc,
             items: Seq::new(alloc),
-            keys: Seq::new(alloc),
-            places,
+            keys: Strings::new(alloc),
+            are_apart: true,
             next: Cell::new(0),
         }
     }
@@ -146,7 +128,7 @@ impl<T: Keyed + Drop> Indexed<T> {
     {
         let place = self.items.len();
         self.items.push(item)?;
-        match add_key(self.alloc, &mut self.keys, &mut self.places, key) {
+        match add_key(&mut self.keys, &mut self.are_apart, &key) {
             Ok(()) => Ok(()),
             Err(error) => {
                 self.items.truncate(place);
@@ -160,7 +142,7 @@ impl<T: Keyed + Drop> Indexed<T> {
         ensures found { option_map (λ x. x.now) result ≡ find (λ x. bytes_eq (T.key_of x) key.now) self.now }
         ensures sized { list_all T.is_sized self.now ≡ true }
     {
-        match find_place(self.keys.as_slice(), &self.places, &self.next, key) {
+        match find_place(&self.keys, self.are_apart, &self.next, key) {
             Some(place) => item_at(self.items.as_slice(), place),
             None => None,
         }

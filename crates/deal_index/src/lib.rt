@@ -3,6 +3,5 @@
 #![tactic(auto)]
 
 mod indexed;
-mod places;
 
 pub use indexed::{Indexed, Keyed};

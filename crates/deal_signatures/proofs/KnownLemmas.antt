@@ -7,27 +7,38 @@ use Rattle.std.specs.Option.{option_and_then}
 use Rattle.std.specs.Str.{bytes_eq}
 use Rattle.spec_deal.specs.declared.transaction.Transaction.{Transaction}
 use Rattle.spec_deal.specs.SignatureFile.{has_bytes}
-use Rattle.deal_index.specs.Places.{place_from}
 use Rattle.deal_index.proofs.Finding.{find_map}
-use Rattle.deal_index.proofs.Placing.{found_place}
+use Rattle.deal_index.proofs.Placing.{get_behind}
 use Rattle.deal_signatures.specs.declared.known.Known.{Known}
 use Rattle.deal_signatures.specs.Seen.{known_in, numbered}
 
-abbrev bytes_of : Transaction → List ℕ
-bytes_of t = t.bytes
+-- the number of the first transaction that has these bytes, where the first of them has number k
+abbrev number_of : List ℕ → ℕ → List Transaction → Option ℕ
+number_of q k ts = option_map (λ (p : List ℕ × ℕ). p.1) (find (λ (p : List ℕ × ℕ). bytes_eq p.0 q) (numbered k ts))
 
-numbers : (q : List ℕ) (k : ℕ) (ts : List Transaction)
-    → option_map (λ (p : List ℕ × ℕ). p.1) (find (λ (p : List ℕ × ℕ). bytes_eq p.0 q) (numbered k ts))
-    ≡ place_from k q (map bytes_of ts)
-numbers q k [] = refl
-numbers q k (t ∷ ts) = by_test (bytes_eq t.bytes q) (numbers q (k + 1) ts)
+-- from the next number on, each number is one more
+number_next : (q : List ℕ) (k : ℕ) (ts : List Transaction) → number_of q (k + 1) ts ≡ option_map (λ n. n + 1) (number_of q k ts)
+number_next q k [] = refl
+number_next q k (t ∷ ts) = by_test (bytes_eq t.bytes q) (number_next q (k + 1) ts)
   where
-    by_test : (b : Bool)
-        → option_map (λ (p : List ℕ × ℕ). p.1) (find (λ (p : List ℕ × ℕ). bytes_eq p.0 q) (numbered (k + 1) ts))
-        ≡ place_from (k + 1) q (map bytes_of ts)
+    by_test : (b : Bool) → number_of q (k + 1 + 1) ts ≡ option_map (λ n. n + 1) (number_of q (k + 1) ts)
         → option_map (λ (p : List ℕ × ℕ). p.1)
-        (cond b (Some (t.bytes, k)) (find (λ (p : List ℕ × ℕ). bytes_eq p.0 q) (numbered (k + 1) ts)))
-        ≡ cond b (Some k) (place_from (k + 1) q (map bytes_of ts))
+        (cond b (Some (t.bytes, k + 1)) (find (λ (p : List ℕ × ℕ). bytes_eq p.0 q) (numbered (k + 1 + 1) ts)))
+        ≡ option_map (λ n. n + 1) (option_map (λ (p : List ℕ × ℕ). p.1)
+        (cond b (Some (t.bytes, k)) (find (λ (p : List ℕ × ℕ). bytes_eq p.0 q) (numbered (k + 1) ts))))
+    by_test true h = refl
+    by_test false h = h
+
+numbered_first : (q : List ℕ) (ts : List Transaction) → option_and_then (slice_get ts) (number_of q 0 ts) ≡ find (has_bytes q) ts
+numbered_first q [] = refl
+numbered_first q (t ∷ ts) =
+    by_test (bytes_eq t.bytes q)
+    (ap (option_and_then (slice_get (t ∷ ts))) (number_next q 0 ts) ∙ get_behind t ts (number_of q 0 ts) ∙ numbered_first q ts)
+  where
+    by_test : (b : Bool) → option_and_then (slice_get (t ∷ ts)) (number_of q 1 ts) ≡ find (has_bytes q) ts
+        → option_and_then (slice_get (t ∷ ts)) (option_map (λ (p : List ℕ × ℕ). p.1)
+        (cond b (Some (t.bytes, 0)) (find (λ (p : List ℕ × ℕ). bytes_eq p.0 q) (numbered 1 ts))))
+        ≡ cond b (Some t) (find (has_bytes q) ts)
     by_test true h = refl
     by_test false h = h
 
@@ -43,5 +54,5 @@ transaction_found ts ns q o all here =
     (number_in o ∙ ap (option_map (λ (p : List ℕ × ℕ). p.1))
     (ap (option_map known_in) here ∙ sym (find_map known_in (λ (p : List ℕ × ℕ). bytes_eq p.0 q) ns)
     ∙ ap (find (λ (p : List ℕ × ℕ). bytes_eq p.0 q)) all)
-    ∙ numbers q 0 ts)
-    ∙ found_place bytes_of q ts
+    )
+    ∙ numbered_first q ts

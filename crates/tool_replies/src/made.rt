@@ -75,7 +75,7 @@ fn counted<H: Hash32 + Drop>(alloc: Global, world: &World<H>) -> Result<Reply, O
     told(alloc, world, &made)
 }
 
-/// What `make` replies to a run and its contracts. The run is let go once it is played: what is printed is read off the world that it
+/// What `make` replies to a run and its contracts. The run is dropped once it is played: what is printed is read off the world that it
 /// left.
 pub fn generated_reply<H: Hash32 + Drop>(
     alloc: Global,

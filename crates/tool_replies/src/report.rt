@@ -79,7 +79,7 @@ fn halted_reply<H: Hash32 + Drop>(
     shown_reply(alloc, world, made.steps, &end)
 }
 
-// What is replied to a run that left this world. It is let go before its steps are made.
+// What is replied to a run that left this world. It is dropped before its steps are made.
 fn left_reply<H: Hash32 + Drop>(
     alloc: Global,
     world: World<H>,
@@ -98,7 +98,7 @@ fn left_reply<H: Hash32 + Drop>(
     }
 }
 
-/// What `play` replies to a run and its contracts. The run is let go once it is played: what is printed is read off the world that it
+/// What `play` replies to a run and its contracts. The run is dropped once it is played: what is printed is read off the world that it
 /// left, and off the event that was halted, if one was.
 pub fn play_reply<H: Hash32 + Drop>(
     alloc: Global,

@@ -7,7 +7,7 @@ use Rattle.bm_book.proofs.Book.has_signed.Goals as goal
 
 pub returns-in-Ok-clause-signed : goal.returns-in-Ok-clause-signed
 returns-in-Ok-clause-signed c = rw (← c.self.view_is) (
-    c.has.ensures
+    c.stands.ensures
     ∙ ap (λ e. is_among e c.self.inside.entries) c.entry_of.ensures.entry
     ∙ is_signed c.self.inside.entries c.in-Ok.key c.args.digest.now c.self.invariant c.entry_of.ensures.key
     ∙ ap (λ k. has_signed (pairs_of c.self.inside.entries) k c.args.digest.now) c.in-Ok.ensures.1.same)

@@ -1,6 +1,0 @@
-use Rattle.std.proofs.Common.{rules}
-use Rattle.bm_exchange.proofs.Placing.{placed_again}
-use Rattle.bm_exchange.proofs.strings.add_again.Goals as goal
-
-pub returns-clause-placed : goal.returns-clause-placed
-returns-clause-placed c = placed_again _ c.args.places.now c.requires.placed c.args.string.now _ c.requires.there (search rules)

@@ -5,7 +5,7 @@ use Rattle.spec_data.specs.Digits.{onto}
 use Rattle.spec_run.specs.Conditions.{HashesBytes}
 use Rattle.spec_tool.specs.Reads.{Asked, Read, Text, text_read, texts_read, are_made}
 use Rattle.spec_tool.specs.Commands.{contract_file, run_file}
-use Rattle.spec_next.specs.NextAnswer.{NextCommand, begins, continues, next_files, next_words, next_answer, next_texts, read_next}
+use Rattle.spec_next.specs.NextAnswer.{NextCommand, begins, continues, next_files, next_words, next_answer, next_texts, party_of, read_next}
 use Rattle.theory_tool.proofs.Statuses.{apart}
 use Rattle.tool_shell.specs.Around.{Around}
 use Rattle.tool_shell.specs.Answered.{GivesUp}
@@ -35,7 +35,7 @@ files_there file files (read ∷ reads) h = onto_there (text_read read) (texts_r
 
 texts_there : (command : NextCommand) (reads : List Read) → are_made (next_files command) reads ≡ true → IsThere (texts_read reads)
 texts_there (begins contract) reads h = files_there (contract_file contract) [] reads h
-texts_there (continues run contracts) reads h = files_there (run_file run) (map contract_file contracts) reads h
+texts_there (continues party run contracts) reads h = files_there (run_file run) (map contract_file contracts) reads h
 
 -- ---- the status of an answer
 
@@ -57,13 +57,13 @@ abbrev three : ℕ
 three = 3
 
 of_texts : (hash : List ℕ → List ℕ) (command : NextCommand) (reads : List Read) (o : Option (List Text)) → texts_read reads ≡ o → IsThere o
-    → Status (Some command) reads (read_next hash o).status
+    → Status (Some command) reads (read_next hash (party_of command) o).status
 of_texts hash command reads None e h =
     record { usage = λ n. absurd (omega (arith, n)); unread = λ n. e; written = λ n. omega (arith, n); memory = λ n. omega (arith, n) }
 of_texts hash command reads (Some []) e h = absurd h
 of_texts hash command reads (Some (first ∷ more)) e h =
-    let n = (next_texts hash (first ∷ more)).status in
-    let k = known hash first more in
+    let n = (next_texts hash (party_of command) (first ∷ more)).status in
+    let k = known hash (party_of command) first more in
     record {
       usage = λ q. absurd (apart 2 numbers refl n k q);
       unread = λ q. absurd (apart 3 numbers refl n k q);
@@ -77,13 +77,13 @@ of_reads hash None reads made =
     record { usage = λ n. refl; unread = λ n. absurd (omega (arith, n)); written = λ n. omega (arith, n); memory = λ n. omega (arith, n) }
 of_reads hash (Some command) reads made = of_texts hash command reads (texts_read reads) refl (texts_there command reads made)
 
-caused_by : (hash : List ℕ → List ℕ) (o : Option (List Text)) → CausedByTexts hash o (read_next hash o)
-caused_by hash None = (refl, refl)
-caused_by hash (Some texts) = causes hash texts
+caused_by : (hash : List ℕ → List ℕ) (party : Option (List ℕ)) (o : Option (List Text)) → CausedByTexts hash o (read_next hash party o)
+caused_by hash party None = (refl, refl)
+caused_by hash party (Some texts) = causes hash party texts
 
 caused : (hash : List ℕ → List ℕ) (command : Option NextCommand) (reads : List Read) → Caused hash command reads (next_answer hash command reads)
 caused hash None reads = refl
-caused hash (Some command) reads = caused_by hash (texts_read reads)
+caused hash (Some command) reads = caused_by hash (party_of command) (texts_read reads)
 
 -- ---- the call
 

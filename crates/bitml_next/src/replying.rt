@@ -1,6 +1,6 @@
 //! What is replied to the texts of files.
 
-ghost use Rattle.std.specs.Prelude.{◌≡◌, ◌≤◌, ◌+◌, length, IfOk};
+ghost use Rattle.std.specs.Prelude.{◌≡◌, ◌≤◌, ◌+◌, length, option_map, IfOk};
 ghost use Rattle.spec_data.specs.Ranges.{most_contracts};
 ghost use Rattle.spec_tool.specs.Answers.{contract_in, contracts_in, run_in, if_whole};
 ghost use Rattle.spec_tool.specs.Commands.{prints, both_judged};
@@ -41,27 +41,29 @@ fn contract_reply(alloc: Global, text: &Option<Bytes>) -> Result<Reply, OutOfMem
 fn run_reply<H: Hash32 + Drop>(
     alloc: Global,
     hash: H,
+    party: Option<&[u8]>,
     run: &Option<Bytes>,
     contracts: &[Option<Bytes>],
 ) -> Result<Reply, OutOfMemory>
     requires { length contracts.now ≤ most_contracts }
     ensures { IfOk result (λ reply. printed reply
-        ≡ both_judged (if_whole next_printed) (H.digest_of hash) (run_in run.now) (contracts_in 0 contracts.now)) }
+        ≡ both_judged (if_whole (next_printed (option_map (λ p. p.now) party.entry))) (H.digest_of hash) (run_in run.now) (contracts_in 0 contracts.now)) }
 {
     match judge_both(alloc, run, contracts)? {
         Judgement::Refused(reply) => Ok(reply),
-        Judgement::Taken(run, contracts) => next_reply(alloc, hash, &run, contracts),
+        Judgement::Taken(run, contracts) => next_reply(alloc, hash, party, &run, contracts),
     }
 }
 
-/// What is replied to these texts: one is a contract, of more the first is a run.
+/// What is replied to these texts, for all or for one party: one is a contract, of more the first is a run.
 pub(crate) fn next_texts<H: Hash32 + Drop>(
     alloc: Global,
     hash: H,
+    party: Option<&[u8]>,
     texts: &[Option<Bytes>],
 ) -> Result<Reply, OutOfMemory>
     requires { length texts.now ≤ most_contracts + 1 }
-    ensures { IfOk result (λ reply. printed reply ≡ spec.next_texts (H.digest_of hash) texts.now) }
+    ensures { IfOk result (λ reply. printed reply ≡ spec.next_texts (H.digest_of hash) (option_map (λ p. p.now) party.entry) texts.now) }
 {
     match texts {
         [] => Ok(Reply {
@@ -69,6 +71,6 @@ pub(crate) fn next_texts<H: Hash32 + Drop>(
             text: Bytes::from_slice(alloc, b"usage\n")?,
         }),
         [contract] => contract_reply(alloc, contract),
-        [run, contracts @ ..] => run_reply(alloc, hash, run, contracts),
+        [run, contracts @ ..] => run_reply(alloc, hash, party, run, contracts),
     }
 }

@@ -5,7 +5,10 @@ ghost use Rattle.theory_next.specs.Candidates.{CanIsMeant, OffersAreSaid};
 ghost use Rattle.theory_next.specs.FirstEvents.{FirstEventsGoThrough};
 ghost use Rattle.theory_next.specs.FirstLines.{FirstLinesAreARun};
 ghost use Rattle.theory_next.specs.FirstRun.{FirstRunIsARun};
+ghost use Rattle.theory_next.specs.Hands.{HandsCountTheorem};
 ghost use Rattle.theory_next.specs.Lasting.{RefusalsLast};
+ghost use Rattle.theory_next.specs.Leads.{LeadsAreEffects};
+ghost use Rattle.theory_next.specs.Listed.{NothingIsLeftOut};
 ghost use Rattle.theory_next.specs.MetAlone.{MetAloneTheorem};
 ghost use Rattle.theory_next.specs.Never.{NeverIsSaid};
 ghost use Rattle.theory_next.specs.Once.{CandidatesStandOnce};
@@ -16,8 +19,9 @@ ghost use Rattle.bitml_next.specs.Told.{TellsAll};
 
 use theory_next::{
     can_is_meant, candidates_stand_once, first_events_go_through, first_lines_are_a_run,
-    first_run_is_a_run, met_alone, never_is_said, offers_are_said, ready_comes, refusals_last,
-    requirements_are_exact, waits_are_meant,
+    first_run_is_a_run, hands_count, leads_are_effects, met_alone, never_is_said,
+    nothing_is_left_out, offers_are_said, ready_comes, refusals_last, requirements_are_exact,
+    waits_are_meant,
 };
 use theory_tool::valid_runs;
 
@@ -30,6 +34,9 @@ fn by_theorems()
     requires outstanding { RequirementsAreExactTheorem }
     requires waits { WaitsAreMeant }
     requires never { NeverIsSaid }
+    requires hands { HandsCountTheorem }
+    requires listed { NothingIsLeftOut }
+    requires leads { LeadsAreEffects }
     requires last { RefusalsLast }
     requires ready { ReadyComesTheorem }
     requires alone { MetAloneTheorem }
@@ -51,6 +58,9 @@ pub(crate) fn answers_tell_all()
     requirements_are_exact();
     waits_are_meant();
     never_is_said();
+    hands_count();
+    nothing_is_left_out();
+    leads_are_effects();
     refusals_last();
     ready_comes();
     met_alone();

@@ -1,3 +1,5 @@
 pub mod Takings
 pub mod Unmet
 mod Standing
+mod Led
+mod Bound

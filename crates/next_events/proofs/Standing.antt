@@ -1,5 +1,5 @@
 -- The branches of an active contract, by what is shown of it.
-use Rattle.std.proofs.Common.{◌≡◌, ℕ, List, [], Bool, Option, Some, None, refl, sym, ap, ◌∙◌}
+use Rattle.std.proofs.Common.{◌≡◌, ℕ, List, [], Option, Some, None, refl, sym, ap, ◌∙◌}
 use Rattle.std.proofs.lemmas.Option.{same_Some}
 use Rattle.spec_terms.specs.Advert.{Advert}
 use Rattle.spec_terms.specs.Core.{core}
@@ -9,7 +9,7 @@ use Rattle.spec_calculus.specs.declared.parts.ActiveContract.{ActiveContract}
 use Rattle.spec_calculus.specs.Beginning.{contract_at, pre_of}
 use Rattle.spec_calculus.specs.Branches.{branch_of, branch_in}
 use Rattle.spec_calculus.specs.Configuration.{Configuration}
-use Rattle.spec_next.specs.Requirements.{Condition, unmet, asked_for, asked_by_branch, undecided_or_true}
+use Rattle.spec_next.specs.Requirements.{unmet, asked_for, asked_by_branch, undecided_or_true}
 use Rattle.bm_calculus.specs.Answers.{parts_of}
 use Rattle.bm_calculus.specs.Undecided.{may_hold_at}
 

@@ -1,7 +1,10 @@
-//! Lists the events that may come next for a contract, and for each the conditions of the calculus that fail.
+//! Lists the events that may come next for a contract, for each the conditions of the calculus that fail, and what a branch
+//! makes.
 #![tactic(auto)]
 
 mod binding;
+mod leads;
+mod lost;
 mod opening;
 mod outstanding;
 mod outstanding_before;
@@ -10,6 +13,8 @@ mod outstanding_reveal;
 mod taking;
 
 pub use binding::advertising;
+pub use leads::lead_at;
+pub use lost::{is_any_never, is_lost, is_never, is_refused};
 pub use opening::{put_committing, put_revealing, put_starting};
 pub use outstanding::put_unless;
 pub use outstanding_before::{put_agreed, put_digests, put_started, put_unbound};

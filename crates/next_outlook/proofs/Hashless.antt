@@ -11,17 +11,22 @@ use Rattle.spec_run.specs.declared.event.Event.{Event}
 use Rattle.spec_run.specs.declared.event.Event.TheVariants as events
 use Rattle.spec_run.specs.declared.header.HeldSecret.{HeldSecret}
 use Rattle.spec_run.specs.Setup.{Setup, held_secret}
-use Rattle.spec_run.specs.World.{World}
+use Rattle.spec_run.specs.World.{ContractPosition, World, live_position_at}
 use Rattle.spec_run.specs.Compiled.{compiled_instance}
+use Rattle.spec_run.specs.Ledger.{position_path}
+use Rattle.spec_run.specs.Signing.{initial_pairs, branch_pair, prepared_if_compiled, authorising_pairs}
 use Rattle.spec_run.specs.Pending.{Pending, guess, apply}
 use Rattle.spec_run.specs.Event.{pending}
+use Rattle.spec_next.specs.declared.requirement.Requirement.{Requirement}
+use Rattle.spec_next.specs.declared.requirement.Requirement.TheVariants as requirements
+use Rattle.spec_next.specs.Hands.{are_in_book, is_in_hand}
 use Rattle.spec_next.specs.declared.outlook.Ruling.{Ruling}
 use Rattle.spec_next.specs.declared.outlook.Ruling.TheVariants as rulings
 use Rattle.spec_next.specs.declared.outlook.Prospect.{Prospect}
 use Rattle.spec_next.specs.Candidates.{people, advertising, committing, has_endorsed, endorsing, starting, revealing, taking_active, actives_of}
 use Rattle.spec_next.specs.Candidates.{candidates, candidates_from}
 use Rattle.spec_next.specs.Requirements.{Condition, agreed, endorsed_for, conditions, unmet, requirements_of}
-use Rattle.spec_next.specs.Prospects.{is_string_posted, is_ahead, is_shown, ruling_of, requirements_by, outlook_by}
+use Rattle.spec_next.specs.Prospects.{is_string_posted, is_ahead, is_shown, ruling_of, is_over, outstanding, requirements_by, outlook_by}
 use Rattle.spec_next.specs.Foreseen.{foreseen_strings}
 use Rattle.theory_world.proofs.Bookless.{compiled_same}
 use Rattle.theory_run.proofs.Events.Hashless.{carried, pending_same}
@@ -94,6 +99,38 @@ module _ (s : Setup) (g : Configuration) (w : World) (hs : List (List ℕ)) wher
   requirements_same : (e : Event) → requirements_of s g more e ≡ requirements_of s g w e
   requirements_same e = ap unmet (conditions_same e)
 
+  -- ---- signatures by hand
+
+  branch_same : (party : List ℕ) (held : Option ContractPosition) (i : ℕ)
+      → are_in_book w.book (authorising_pairs s more party held i) ≡ are_in_book w.book (authorising_pairs s w party held i)
+  branch_same party None i = refl
+  branch_same party (Some held) i =
+      ap (λ o. are_in_book w.book (branch_pair s party held.contract (position_path held i) (prepared_if_compiled s o (position_path held i))))
+      (instance_same held.contract)
+
+  hand_same : (x : Requirement) → is_in_hand s more x ≡ is_in_hand s w x
+  hand_same (requirements.Start party k) = ap (λ o. are_in_book w.book (initial_pairs s party o)) (instance_same k)
+  hand_same (requirements.Authorisation party n i) = branch_same party (live_position_at w n) i
+  hand_same (requirements.Advert k) = refl
+  hand_same (requirements.Deposit x) = refl
+  hand_same (requirements.Gone x) = refl
+  hand_same requirements.NobodyHonest = refl
+  hand_same (requirements.Missing x) = refl
+  hand_same (requirements.BadLength x) = refl
+  hand_same (requirements.Repeated x) = refl
+  hand_same (requirements.Digest party k x) = refl
+  hand_same (requirements.Commitment party k) = refl
+  hand_same (requirements.Endorsement party k) = refl
+  hand_same (requirements.Beginning k) = refl
+  hand_same (requirements.Height t m) = refl
+  hand_same (requirements.Put x) = refl
+  hand_same (requirements.Secret party k x) = refl
+  hand_same (requirements.Posted party x) = refl
+  hand_same requirements.Predicate = refl
+
+  outstanding_same : (e : Event) → outstanding s g more e ≡ outstanding s g w e
+  outstanding_same e = λ i. filter (λ x. not (hand_same x i)) (requirements_same e i)
+
   -- ---- what is shown
 
   posted_same : (string : Option (List ℕ)) → is_string_posted string more ≡ is_string_posted string w
@@ -133,7 +170,7 @@ module _ (s : Setup) (g : Configuration) (w : World) (hs : List (List ℕ)) wher
 
   told_same : (e : Event) (r : Ruling) → told s g more e r ≡ told s g w e r
   told_same e r =
-      λ i. if shown_same e r i then record { event = e; ruling = r; requirements = requirements_by (requirements_same e i) r } ∷ [] else []
+      λ i. if shown_same e r i then record { event = e; ruling = r; requirements = requirements_by (outstanding_same e i) r } ∷ [] else []
 
   foretold_same : (e : Event) → foretold s g more e ≡ foretold s g w e
   foretold_same e = told_same e (calm_ruling s more e) ∙ ap (told s g w e) (ruling_same e)
@@ -143,7 +180,7 @@ module _ (s : Setup) (g : Configuration) (w : World) (hs : List (List ℕ)) wher
 
   outlook_same : (k : ℕ) (c : Advert) → foretold_outlook s g more k c ≡ foretold_outlook s g w k c
   outlook_same k c =
-      ap (outlook_by g (participants c)) (all_same (candidates s g more k c) ∙ ap (all_foretold s g w) (candidates_same k c))
+      ap (outlook_by g (is_over g w k) k (participants c)) (all_same (candidates s g more k c) ∙ ap (all_foretold s g w) (candidates_same k c))
 
   -- ---- strings
 

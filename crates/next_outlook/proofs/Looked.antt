@@ -15,8 +15,7 @@ use Rattle.spec_run.specs.Pending.{guess, apply}
 use Rattle.spec_run.specs.Event.{pending}
 use Rattle.spec_next.specs.declared.outlook.Outlook.{Outlook}
 use Rattle.spec_next.specs.Candidates.{candidates, candidates_from}
-use Rattle.spec_next.specs.Requirements.{requirements_of}
-use Rattle.spec_next.specs.Prospects.{ruling, ruling_of, is_shown, requirements_by, prospect, prospects_of, outlook_by, outlooks_from}
+use Rattle.spec_next.specs.Prospects.{ruling, ruling_of, is_shown, is_over, outstanding, requirements_by, prospect, prospects_of, outlook_by, outlooks_from}
 use Rattle.spec_next.specs.Foreseen.{foreseen_strings}
 use Rattle.theory_run.proofs.Fewer.{collision_within}
 use Rattle.theory_world.proofs.Hashed.{all_more}
@@ -48,7 +47,7 @@ module _ (s : Setup) (g : Configuration) (w : World) where
   prospect_first e es = by_test (is_shown s w e (ruling s w e))
     where
       by_test : (b : Bool)
-          → (if b then record { event = e; ruling = ruling s w e; requirements = requirements_by (requirements_of s g w e) (ruling s w e) }
+          → (if b then record { event = e; ruling = ruling s w e; requirements = requirements_by (outstanding s g w e) (ruling s w e) }
           ∷ [] else []) ++ map (prospect s g w) (kept es)
           ≡ map (prospect s g w) (if b then e ∷ kept es else kept es)
       by_test true = refl
@@ -73,7 +72,7 @@ module _ (s : Setup) (g : Configuration) (w : World) where
       let later = candidates_from s g w (k + 1) cs in
       let cut : collision s.hash w.hashed (foreseen_strings s w here ++ foreseen_strings s w later) ≡ None =
       ap (collision s.hash w.hashed) (sym (flat_map-append (λ (x : Event). (pending s w x).hashes) here later)) ∙ h in
-      λ i. outlook_by g (participants c) (prospects_are here (first_calm s.hash w.hashed (foreseen_strings s w here) (foreseen_strings s w later) cut) i)
+      λ i. outlook_by g (is_over g w k) k (participants c) (prospects_are here (first_calm s.hash w.hashed (foreseen_strings s w here) (foreseen_strings s w later) cut) i)
       ∷ outlooks_are (k + 1) cs (rest_calm s.hash w.hashed (foreseen_strings s w here) (foreseen_strings s w later) cut) i
 
 pub looked_by : {H : Type 0} (digest : H → List ℕ → List ℕ) (g : Configuration) (old new : Played H) (list : List Outlook) → old.halt ≡ None

@@ -14,8 +14,7 @@ use Rattle.spec_next.specs.declared.outlook.Ruling.TheVariants as rulings
 use Rattle.spec_next.specs.declared.outlook.Prospect.{Prospect}
 use Rattle.spec_next.specs.declared.outlook.Outlook.{Outlook}
 use Rattle.spec_next.specs.Candidates.{candidates}
-use Rattle.spec_next.specs.Requirements.{requirements_of}
-use Rattle.spec_next.specs.Prospects.{ruling_by, ruling_of, is_shown, requirements_by, outlook_by}
+use Rattle.spec_next.specs.Prospects.{ruling_by, ruling_of, is_shown, is_over, outstanding, requirements_by, outlook_by}
 
 -- the ruling of an outcome; without one the event halts
 abbrev pub ruling_in : Option Outcome → Ruling
@@ -28,7 +27,7 @@ calm_ruling s w e = ruling_of (apply w (pending s w e) None (guess s w.posted (p
 
 -- what is told of an event with this ruling, nothing where it isn't shown
 abbrev pub told : Setup → Configuration → World → Event → Ruling → List Prospect
-told s g w e r = if is_shown s w e r then record { event = e; ruling = r; requirements = requirements_by (requirements_of s g w e) r } ∷ [] else []
+told s g w e r = if is_shown s w e r then record { event = e; ruling = r; requirements = requirements_by (outstanding s g w e) r } ∷ [] else []
 
 abbrev pub foretold : Setup → Configuration → World → Event → List Prospect
 foretold s g w e = told s g w e (calm_ruling s w e)
@@ -39,7 +38,7 @@ all_foretold s g w es = flat_map (foretold s g w) es
 
 -- of contract k
 abbrev pub foretold_outlook : Setup → Configuration → World → ℕ → Advert → Outlook
-foretold_outlook s g w k advert = outlook_by g (participants advert) (all_foretold s g w (candidates s g w k advert))
+foretold_outlook s g w k advert = outlook_by g (is_over g w k) k (participants advert) (all_foretold s g w (candidates s g w k advert))
 
 -- of the contracts from number k on
 abbrev pub foretold_outlooks : Setup → Configuration → World → ℕ → List Advert → List Outlook

@@ -16,8 +16,8 @@ use bm_world::World;
 use spec_data::{Name, OutOfMemory};
 use std::alloc::Global;
 
-// Whether the book has all of these pairs.
-fn are_signed(book: &Book, pairs: &[Pair]) -> bool
+/// Whether the book has all of these pairs.
+pub(crate) fn are_signed(book: &Book, pairs: &[Pair]) -> bool
     ensures { result ≡ spec.are_signed book.now pairs.now }
 {
     pairs.iter().all(|p| book.has(&p.0, &p.1))

@@ -4,28 +4,11 @@ ghost use Rattle.std.specs.Prelude.{◌≡◌, ◌&&◌, ◌||◌, not, filter, 
 ghost use Rattle.std.specs.List.{list_any};
 ghost use Rattle.spec_next.specs.Prospects as spec;
 
-use crate::never::is_any_never;
+use next_events::{is_lost, is_refused};
 use spec_data::{OutOfMemory, Seq};
 use spec_next::{Prospect, Ruling};
 use spec_run::Event;
 use std::alloc::Global;
-
-// Whether the event never comes.
-fn is_lost(prospect: &Prospect) -> bool
-    ensures { result ≡ spec.is_lost prospect.now }
-{
-    is_any_never(prospect.requirements.as_slice())
-}
-
-fn is_refused(ruling: &Ruling) -> bool
-    ensures { result ≡ spec.is_refused ruling.now }
-{
-    match ruling {
-        Ruling::Can => false,
-        Ruling::Cannot(_) => true,
-        Ruling::Halts => false,
-    }
-}
 
 // Whether a contract goes on by the event.
 fn goes_on(event: &Event, ruling: &Ruling) -> bool
@@ -72,51 +55,30 @@ fn kept(alloc: Global, prospects: &[Prospect]) -> Result<Seq<Prospect>, OutOfMem
     Ok(list)
 }
 
-fn takes(event: &Event) -> bool
-    ensures { result ≡ spec.takes event.now }
-{
-    match event {
-        Event::Fire { .. } => true,
-        _ => false,
-    }
-}
-
-// Whether a secret is revealed by the event, of a contract that has begun.
-fn reveals(event: &Event, ruling: &Ruling) -> bool
-    ensures { result ≡ spec.reveals event.now ruling.now }
-{
-    match event {
-        Event::Reveal { .. } => !is_refused(ruling),
-        _ => false,
-    }
-}
-
-fn has_taking(prospects: &[Prospect]) -> bool
-    ensures { result ≡ list_any (λ p. spec.takes p.event) prospects.now }
-{
-    prospects.iter().any(|prospect| takes(&prospect.event))
-}
-
-fn without_reveals(alloc: Global, prospects: &[Prospect]) -> Result<Seq<Prospect>, OutOfMemory>
-    ensures { IfOk result (λ list. list ≡ filter (λ p. not (spec.reveals p.event p.ruling)) prospects.now) }
+fn going(alloc: Global, prospects: &[Prospect]) -> Result<Seq<Prospect>, OutOfMemory>
+    ensures { IfOk result (λ list. list ≡ filter (λ p. spec.goes_on p.event p.ruling) prospects.now) }
 {
     let mut list = Seq::new(alloc);
     for prospect in prospects {
-        if !reveals(&prospect.event, &prospect.ruling) {
+        if goes_on(&prospect.event, &prospect.ruling) {
             list.push(prospect.copy(alloc)?)?;
         }
     }
     Ok(list)
 }
 
-/// These, or where none of them takes a branch, those that aren't reveals of a contract that has begun.
-pub(crate) fn useful(alloc: Global, prospects: Seq<Prospect>) -> Result<Seq<Prospect>, OutOfMemory>
-    ensures { IfOk result (λ list. list ≡ spec.useful prospects) }
+/// These, or of a contract that is over those by which it would go on.
+pub(crate) fn useful(
+    alloc: Global,
+    over: bool,
+    prospects: Seq<Prospect>,
+) -> Result<Seq<Prospect>, OutOfMemory>
+    ensures { IfOk result (λ list. list ≡ spec.useful over prospects) }
 {
-    if has_taking(prospects.as_slice()) {
-        return Ok(prospects);
+    if over {
+        return going(alloc, prospects.as_slice());
     }
-    without_reveals(alloc, prospects.as_slice())
+    Ok(prospects)
 }
 
 /// These, or of a contract that never begins those that never come and those by which one goes on.

@@ -14,6 +14,7 @@ ghost use Rattle.next_outlook.specs.Seen.{SeesOne, Sees, SeesContract, AddsContr
 
 use crate::candidates::candidates;
 use crate::living::{living, useful};
+use crate::over::is_over;
 use crate::prospects::tell;
 use crate::waits::waits;
 use bm_calculus::Config;
@@ -74,15 +75,23 @@ fn look_all<H: Hash32 + Drop>(
 fn outlook_of(
     alloc: Global,
     config: &Config,
+    contract: u32,
     checked: &Checked,
+    over: bool,
     ahead: Seq<Prospect>,
 ) -> Result<Outlook, OutOfMemory>
-    ensures { IfOk result (λ outlook. outlook ≡ outlook_by config.now (participants checked.now) ahead) }
+    ensures { IfOk result (λ outlook. outlook ≡ outlook_by config.now over contract (participants checked.now) ahead) }
 {
-    let useful = useful(alloc, ahead)?;
+    let useful = useful(alloc, over, ahead)?;
     let prospects = living(alloc, useful)?;
     let waits = waits(alloc, config, checked.parties(), prospects.as_slice())?;
-    Ok(Outlook { prospects, waits })
+    let parties = Seq::of(Vec::from_slice(alloc, checked.parties())?);
+    Ok(Outlook {
+        contract,
+        parties,
+        prospects,
+        waits,
+    })
 }
 
 // The same of the candidates of a contract.
@@ -99,9 +108,10 @@ fn look_contract<H: Hash32 + Drop>(
         (spec.candidates (setup_in H.digest_of world.old) config.now world.old.world contract checked.now))) }
 {
     let _board = world.board();
+    let over = is_over(world, config, contract);
     let events = candidates(alloc, world, config, contract, checked)?;
     let prospects = look_all(alloc, world, config, events.as_slice())?;
-    match outlook_of(alloc, config, checked, prospects) {
+    match outlook_of(alloc, config, contract, checked, over, prospects) {
         Ok(outlook) => Ok(outlook),
         Err(_) => Err(Halt::Memory),
     }

@@ -1,36 +1,13 @@
 //! What nothing gives.
 
 ghost use Rattle.std.specs.Prelude.{◌≡◌, ◌++◌, filter, IfOk, OnOk};
-ghost use Rattle.std.specs.List.{list_any};
 ghost use Rattle.spec_next.specs.Prospects as spec;
 
+use next_events::{is_any_never, is_never};
 use spec_data::{OutOfMemory, Seq};
 use spec_next::Requirement;
 use spec_run::Reason;
 use std::alloc::Global;
-
-// Whether nothing gives it.
-fn is_never(requirement: &Requirement) -> bool
-    ensures { result ≡ spec.is_never requirement.now }
-{
-    match requirement {
-        Requirement::Gone(_) => true,
-        Requirement::NobodyHonest => true,
-        Requirement::Missing(_) => true,
-        Requirement::BadLength(_) => true,
-        Requirement::Repeated(_) => true,
-        Requirement::Put(_) => true,
-        Requirement::Predicate => true,
-        _ => false,
-    }
-}
-
-/// Whether nothing gives one of these.
-pub(crate) fn is_any_never(requirements: &[Requirement]) -> bool
-    ensures { result ≡ list_any spec.is_never requirements.now }
-{
-    requirements.iter().any(|requirement| is_never(requirement))
-}
 
 // Those of these that nothing gives.
 fn never_of(alloc: Global, requirements: &[Requirement]) -> Result<Seq<Requirement>, OutOfMemory>

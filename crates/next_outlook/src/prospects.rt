@@ -1,8 +1,7 @@
 //! What is told of an event with what it would come to.
 
 ghost use Rattle.std.specs.Prelude.{◌≡◌, ◌++◌, IfOk, OnOk};
-ghost use Rattle.spec_next.specs.Requirements.{requirements_of};
-ghost use Rattle.spec_next.specs.Prospects.{requirements_by, ruling_by};
+ghost use Rattle.spec_next.specs.Prospects.{outstanding, requirements_by, ruling_by};
 ghost use Rattle.bm_world.specs.Playing.{setup_in};
 ghost use Rattle.next_outlook.specs.Foretold as spec;
 
@@ -46,7 +45,7 @@ fn requirements_by<H: Hash32 + Drop>(
     ruling: &Ruling,
 ) -> Result<Seq<Requirement>, OutOfMemory>
     ensures { IfOk result (λ requirements. requirements ≡ requirements_by
-        (requirements_of (setup_in H.digest_of world.now) config.now world.now.world event.now) ruling.now) }
+        (outstanding (setup_in H.digest_of world.now) config.now world.now.world event.now) ruling.now) }
 {
     match ruling {
         Ruling::Cannot(reason) => lacking(alloc, world, config, event, reason),

@@ -9,12 +9,12 @@ ghost use Rattle.spec_run.specs.Setup as run;
 ghost use Rattle.spec_run.specs.Setup.{pre_at};
 ghost use Rattle.next_outlook.specs.Endorsed.{endorsed_by};
 ghost use Rattle.spec_run.specs.declared.event.Event.TheVariants as events;
-ghost use Rattle.spec_next.specs.declared.requirement.Requirement.TheVariants as outstanding;
-ghost use Rattle.spec_next.specs.Prospects.{decisive, lasting};
+ghost use Rattle.spec_next.specs.Prospects.{decisive, lasting, outstanding};
 ghost use Rattle.spec_next.specs.Requirements as spec;
 ghost use Rattle.bm_world.specs.Playing.{setup_in};
 
 use crate::endorsed::has_endorsed;
+use crate::hands::put_outstanding;
 use crate::never::{decisive, put_lasting};
 use bm_calculus::Config;
 use bm_hash::Hash32;
@@ -238,10 +238,12 @@ pub(crate) fn lacking<H: Hash32 + Drop>(
     reason: &Reason,
 ) -> Result<Seq<Requirement>, OutOfMemory>
     ensures { IfOk result (λ requirements. requirements ≡ decisive (lasting reason.now
-        ++ spec.requirements_of (setup_in H.digest_of world.now) config.now world.now.world event.now)) }
+        ++ outstanding (setup_in H.digest_of world.now) config.now world.now.world event.now)) }
 {
+    let mut all = Seq::new(alloc);
+    put_requirements(alloc, &mut all, world, config, event)?;
     let mut requirements = Seq::new(alloc);
     put_lasting(&mut requirements, reason)?;
-    put_requirements(alloc, &mut requirements, world, config, event)?;
+    put_outstanding(alloc, &mut requirements, world, all.as_slice())?;
     decisive(alloc, requirements)
 }

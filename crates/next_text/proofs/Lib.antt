@@ -1,1 +1,3 @@
 pub mod Deposits
+pub mod Nothing
+pub mod Phases

@@ -4,6 +4,8 @@
 mod beginning;
 mod first_events;
 mod header;
+mod lead;
+mod listed;
 mod once;
 mod outlook;
 mod requirement;

@@ -1,16 +1,21 @@
 //! What comes next of contracts, in lines.
 
-ghost use Rattle.std.specs.Prelude.{◌≡◌, ◌++◌, codes, flat_map, IfOk, OnOk};
+ghost use Rattle.std.specs.Prelude.{◌≡◌, ◌++◌, codes, filter, flat_map, option_map, IfOk, OnOk};
+ghost use Rattle.std.specs.Fmt.{decimal};
 ghost use Rattle.spec_text.specs.RunText.{newline, event_text};
 ghost use Rattle.spec_text.specs.OutcomeText.{reason_text};
+ghost use Rattle.spec_next.specs.Listed.{before, from_branches, is_for_party, of_party};
 ghost use Rattle.spec_next.specs.OutlookText as spec;
 
+use crate::lead::put_event_lead;
+use crate::listed::{is_before, is_for_party, is_meant, listed_of};
 use crate::once::put_requirements;
+use bm_calculus::Config;
 use bm_report::put_reason;
-use bm_runfile::put_event;
+use bm_runfile::{put_event, put_word_number};
 use bm_text::put;
-use spec_data::{Name, OutOfMemory};
-use spec_next::{Outlook, Prospect, Ruling};
+use spec_data::{Name, OutOfMemory, Seq};
+use spec_next::{Outlook, Prospect, Requirement, Ruling};
 use spec_run::{Event, Reason};
 use std::alloc::Global;
 
@@ -65,27 +70,122 @@ fn put_ruling(
     }
 }
 
-#[tactic(auto, using(std::proofs::Common::append_assoc))]
-fn put_prospect(alloc: Global, out: &mut Vec<u8>, prospect: &Prospect) -> Result<(), OutOfMemory>
-    ensures { OnOk result (out.new.items ≡ out.old.items ++ spec.prospect_text prospect.now) }
+// ---- before the branches
+
+fn put_prospect_line(
+    alloc: Global,
+    out: &mut Vec<u8>,
+    prospect: &Prospect,
+) -> Result<(), OutOfMemory>
+    ensures { OnOk result (out.new.items ≡ out.old.items ++ spec.prospect_line prospect.now) }
 {
-    put_ruling(alloc, out, &prospect.event, &prospect.ruling)?;
+    put_ruling(alloc, out, &prospect.event, &prospect.ruling)
+}
+
+// The lines of the events before the branches.
+#[tactic(auto, using(std::proofs::Common::append_assoc))]
+fn put_lines_before(
+    alloc: Global,
+    out: &mut Vec<u8>,
+    prospects: &[Prospect],
+) -> Result<(), OutOfMemory>
+    ensures { OnOk result (out.new.items ≡ out.old.items ++ flat_map spec.prospect_line (before prospects.now)) }
+{
+    for prospect in prospects {
+        if is_before(prospect) {
+            put_prospect_line(alloc, out, prospect)?;
+        }
+    }
+    Ok(())
+}
+
+// Adds all of these.
+#[tactic(auto, using(std::proofs::Common::append_assoc))]
+fn add_requirements(
+    all: &mut Seq<Requirement>,
+    requirements: &[Requirement],
+) -> Result<(), OutOfMemory>
+    ensures { OnOk result (all.new ≡ all.old ++ requirements.now) }
+{
+    for requirement in requirements {
+        all.push(requirement.copy())?;
+    }
+    Ok(())
+}
+
+// What is missing for all of them.
+#[tactic(auto, using(std::proofs::Common::append_assoc))]
+fn requirements_before(
+    alloc: Global,
+    prospects: &[Prospect],
+) -> Result<Seq<Requirement>, OutOfMemory>
+    ensures { IfOk result (λ all. all ≡ flat_map (λ p. p.requirements) (before prospects.now)) }
+{
+    let mut all = Seq::new(alloc);
+    for prospect in prospects {
+        if is_before(prospect) {
+            add_requirements(&mut all, prospect.requirements.as_slice())?;
+        }
+    }
+    Ok(all)
+}
+
+#[tactic(auto, using(std::proofs::Common::append_assoc))]
+fn put_before(alloc: Global, out: &mut Vec<u8>, prospects: &[Prospect]) -> Result<(), OutOfMemory>
+    ensures { OnOk result (out.new.items ≡ out.old.items ++ spec.before_text (before prospects.now)) }
+{
+    put_lines_before(alloc, out, prospects)?;
+    let required = requirements_before(alloc, prospects)?;
+    put_requirements(alloc, out, required.as_slice())
+}
+
+// ---- branches
+
+#[tactic(auto, using(std::proofs::Common::append_assoc))]
+fn put_branch(
+    alloc: Global,
+    out: &mut Vec<u8>,
+    config: &Config,
+    prospect: &Prospect,
+) -> Result<(), OutOfMemory>
+    ensures { OnOk result (out.new.items ≡ out.old.items ++ spec.branch_text config.now prospect.now) }
+{
+    put_prospect_line(alloc, out, prospect)?;
+    put_event_lead(alloc, out, config, &prospect.event)?;
     put_requirements(alloc, out, prospect.requirements.as_slice())
+}
+
+#[tactic(auto, using(std::proofs::Common::append_assoc))]
+fn put_branches(
+    alloc: Global,
+    out: &mut Vec<u8>,
+    config: &Config,
+    prospects: &[Prospect],
+) -> Result<(), OutOfMemory>
+    ensures { OnOk result (out.new.items ≡ out.old.items ++ flat_map (spec.branch_text config.now) (from_branches prospects.now)) }
+{
+    for prospect in prospects {
+        if !is_before(prospect) {
+            put_branch(alloc, out, config, prospect)?;
+        }
+    }
+    Ok(())
 }
 
 #[tactic(auto, using(std::proofs::Common::append_assoc))]
 fn put_prospects(
     alloc: Global,
     out: &mut Vec<u8>,
+    config: &Config,
     prospects: &[Prospect],
 ) -> Result<(), OutOfMemory>
-    ensures { OnOk result (out.new.items ≡ out.old.items ++ flat_map spec.prospect_text prospects.now) }
+    ensures { OnOk result (out.new.items ≡ out.old.items ++ spec.prospects_text config.now prospects.now) }
 {
-    for prospect in prospects {
-        put_prospect(alloc, out, prospect)?;
-    }
-    Ok(())
+    put_before(alloc, out, prospects)?;
+    put_branches(alloc, out, config, prospects)
 }
+
+// ---- contracts
 
 #[tactic(auto, using(std::proofs::Common::append_assoc))]
 fn put_waiting(out: &mut Vec<u8>, party: &Name) -> Result<(), OutOfMemory>
@@ -96,32 +196,84 @@ fn put_waiting(out: &mut Vec<u8>, party: &Name) -> Result<(), OutOfMemory>
     put(out, b"\n")
 }
 
+// Who can give now what is missing, of those that are asked for.
 #[tactic(auto, using(std::proofs::Common::append_assoc))]
-fn put_waits(out: &mut Vec<u8>, parties: &[Name]) -> Result<(), OutOfMemory>
-    ensures { OnOk result (out.new.items ≡ out.old.items ++ flat_map spec.waits_line parties.now) }
+fn put_waits(out: &mut Vec<u8>, party: Option<&[u8]>, names: &[Name]) -> Result<(), OutOfMemory>
+    ensures { OnOk result (out.new.items
+        ≡ out.old.items ++ flat_map spec.waits_line (of_party (option_map (λ p. p.now) party.entry) names.now)) }
 {
-    for party in parties {
-        put_waiting(out, party)?;
+    for name in names {
+        if is_meant(party, name) {
+            put_waiting(out, name)?;
+        }
     }
     Ok(())
 }
 
+// A word and a number on a line.
 #[tactic(auto, using(std::proofs::Common::append_assoc))]
-fn put_outlook(alloc: Global, out: &mut Vec<u8>, outlook: &Outlook) -> Result<(), OutOfMemory>
-    ensures { OnOk result (out.new.items ≡ out.old.items ++ spec.outlook_text outlook.now) }
+fn put_number_line(
+    alloc: Global,
+    out: &mut Vec<u8>,
+    word: &[u8],
+    number: u32,
+) -> Result<(), OutOfMemory>
+    ensures { OnOk result (out.new.items ≡ out.old.items ++ (word.now ++ (decimal number ++ newline))) }
 {
-    put_prospects(alloc, out, outlook.prospects.as_slice())?;
-    put_waits(out, outlook.waits.as_slice())
+    put_word_number(alloc, out, word, number)?;
+    put(out, b"\n")
 }
 
-/// What comes next of contracts, one after another.
 #[tactic(auto, using(std::proofs::Common::append_assoc))]
-pub fn outlooks_text(alloc: Global, outlooks: &[Outlook]) -> Result<Vec<u8>, OutOfMemory>
-    ensures { IfOk result (λ text. text.items ≡ flat_map spec.outlook_text outlooks.now) }
+fn put_outlook(
+    alloc: Global,
+    out: &mut Vec<u8>,
+    party: Option<&[u8]>,
+    config: &Config,
+    outlook: &Outlook,
+) -> Result<(), OutOfMemory>
+    ensures { OnOk result (out.new.items
+        ≡ out.old.items ++ spec.outlook_text (option_map (λ p. p.now) party.entry) config.now outlook.now) }
+{
+    let listed = listed_of(alloc, party, outlook)?;
+    put_number_line(alloc, out, b"contract ", outlook.contract)?;
+    put_prospects(alloc, out, config, listed.as_slice())?;
+    put_waits(out, party, outlook.waits.as_slice())
+}
+
+// Those that are shown of these contracts, one after another.
+#[tactic(auto, using(std::proofs::Common::append_assoc))]
+fn put_outlooks(
+    alloc: Global,
+    out: &mut Vec<u8>,
+    party: Option<&[u8]>,
+    config: &Config,
+    outlooks: &[Outlook],
+) -> Result<(), OutOfMemory>
+    ensures { let asked = option_map (λ p. p.now) party.entry in
+        OnOk result (out.new.items
+        ≡ out.old.items ++ flat_map (spec.outlook_text asked config.now) (filter (is_for_party asked) outlooks.now)) }
+{
+    for outlook in outlooks {
+        if is_for_party(party, outlook) {
+            put_outlook(alloc, out, party, config, outlook)?;
+        }
+    }
+    Ok(())
+}
+
+/// What comes next: the height and contracts, one after another, for all parties or for one.
+#[tactic(auto, using(std::proofs::Common::append_assoc))]
+pub fn outlooks_text(
+    alloc: Global,
+    party: Option<&[u8]>,
+    config: &Config,
+    outlooks: &[Outlook],
+) -> Result<Vec<u8>, OutOfMemory>
+    ensures { IfOk result (λ text. text.items ≡ spec.outlooks_text (option_map (λ p. p.now) party.entry) config.now outlooks.now) }
 {
     let mut out = Vec::new(alloc);
-    for outlook in outlooks {
-        put_outlook(alloc, &mut out, outlook)?;
-    }
+    put_number_line(alloc, &mut out, b"height ", config.time())?;
+    put_outlooks(alloc, &mut out, party, config, outlooks)?;
     Ok(out)
 }

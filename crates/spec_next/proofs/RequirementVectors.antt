@@ -32,16 +32,14 @@ use Rattle.spec_next.proofs.RunVectors.{long_secret, long_secret_revealed, putti
 -- ---- before a contract begins
 
 -- honest parties wait for an endorsement
-pub escrow_needs_endorsement : next_answer small_hash (Some (continues (codes "r") (codes "c" ∷ []))) (got escrow_endorsed ∷ got escrow ∷ [])
+pub escrow_needs_endorsement : next_answer small_hash (Some (continues None (codes "r") (codes "c" ∷ []))) (got escrow_endorsed ∷ got escrow ∷ [])
     ≡ prints 0 (lines (
+    codes "height 0" ∷
+    codes "contract 0" ∷
     codes "can endorse 0 B" ∷
     codes "cannot init 0 A NotEndorsed r.0 B" ∷
-    codes "needs B endorses 0" ∷
     codes "cannot init 0 B NotEndorsed r.0 B" ∷
     codes "needs B endorses 0" ∷
-    codes "cannot fire init 0 ScriptFalse 0" ∷
-    codes "needs A inits 0" ∷
-    codes "needs B inits 0" ∷
     codes "waits B" ∷
     []))
 unfolding is_name word_prefix number_prefix symbol_prefix read_contract advert_of_all advert_at entries_at entry_at head_at deposit_at
@@ -53,8 +51,10 @@ unfolding is_name word_prefix number_prefix symbol_prefix read_contract advert_o
 escrow_needs_endorsement = refl
 
 -- the beginning waits for a signature
-pub escrow_needs_signature : next_answer small_hash (Some (continues (codes "r") (codes "c" ∷ []))) (got escrow_started ∷ got escrow ∷ [])
+pub escrow_needs_signature : next_answer small_hash (Some (continues None (codes "r") (codes "c" ∷ []))) (got escrow_started ∷ got escrow ∷ [])
     ≡ prints 0 (lines (
+    codes "height 0" ∷
+    codes "contract 0" ∷
     codes "can init 0 B" ∷
     codes "cannot fire init 0 ScriptFalse 1" ∷
     codes "needs B inits 0" ∷
@@ -69,36 +69,12 @@ unfolding is_name word_prefix number_prefix symbol_prefix read_contract advert_o
 escrow_needs_signature = refl
 
 -- no deposit fits a name
-pub no_deposit_fits : next_answer small_hash (Some (continues (codes "r") (codes "c" ∷ []))) (got escrow_poor ∷ got escrow ∷ [])
+pub no_deposit_fits : next_answer small_hash (Some (continues None (codes "r") (codes "c" ∷ []))) (got escrow_poor ∷ got escrow ∷ [])
     ≡ prints 0 (lines (
+    codes "height 0" ∷
+    codes "contract 0" ∷
     codes "cannot advertise 0 x=#0 WrongNames" ∷
     codes "needs deposit y" ∷
-    codes "cannot commit 0 A NotAdvertised" ∷
-    codes "needs advertise 0" ∷
-    codes "cannot commit 0 B NotAdvertised" ∷
-    codes "needs advertise 0" ∷
-    codes "cannot endorse 0 A NotAllCommitted" ∷
-    codes "needs advertise 0" ∷
-    codes "needs A commits 0" ∷
-    codes "needs B commits 0" ∷
-    codes "cannot endorse 0 B NotAllCommitted" ∷
-    codes "needs advertise 0" ∷
-    codes "needs A commits 0" ∷
-    codes "needs B commits 0" ∷
-    codes "cannot init 0 A NotAllCommitted" ∷
-    codes "needs advertise 0" ∷
-    codes "needs A commits 0" ∷
-    codes "needs B commits 0" ∷
-    codes "cannot init 0 B NotAllCommitted" ∷
-    codes "needs advertise 0" ∷
-    codes "needs A commits 0" ∷
-    codes "needs B commits 0" ∷
-    codes "cannot fire init 0 NotCompiled" ∷
-    codes "needs advertise 0" ∷
-    codes "needs A commits 0" ∷
-    codes "needs B commits 0" ∷
-    codes "needs A inits 0" ∷
-    codes "needs B inits 0" ∷
     []))
 unfolding is_name word_prefix number_prefix symbol_prefix read_contract advert_of_all advert_at entries_at entry_at head_at deposit_at
     secret_at
@@ -109,8 +85,10 @@ unfolding is_name word_prefix number_prefix symbol_prefix read_contract advert_o
 no_deposit_fits = refl
 
 -- a deposit that was bound has gone, so the contract never begins
-pub deposit_is_gone : next_answer small_hash (Some (continues (codes "r") (codes "c" ∷ []))) (got escrow_gone ∷ got escrow ∷ [])
+pub deposit_is_gone : next_answer small_hash (Some (continues None (codes "r") (codes "c" ∷ []))) (got escrow_gone ∷ got escrow ∷ [])
     ≡ prints 0 (lines (
+    codes "height 0" ∷
+    codes "contract 0" ∷
     codes "cannot fire init 0 NotCompiled" ∷
     codes "never: deposit x gone" ∷
     []))
@@ -123,8 +101,10 @@ unfolding is_name word_prefix number_prefix symbol_prefix read_contract advert_o
 deposit_is_gone = refl
 
 -- nor does one of which nobody is honest
-pub nobody_is_honest : next_answer small_hash (Some (continues (codes "r") (codes "c" ∷ []))) (got escrow_of_none ∷ got escrow ∷ [])
+pub nobody_is_honest : next_answer small_hash (Some (continues None (codes "r") (codes "c" ∷ []))) (got escrow_of_none ∷ got escrow ∷ [])
     ≡ prints 0 (lines (
+    codes "height 0" ∷
+    codes "contract 0" ∷
     codes "cannot advertise 0 x=#0 y=#1 NoHonest" ∷
     codes "never: nobody honest" ∷
     []))
@@ -137,8 +117,10 @@ unfolding is_name word_prefix number_prefix symbol_prefix read_contract advert_o
 nobody_is_honest = refl
 
 -- nor one to which an honest party can't commit
-pub secret_is_short : next_answer small_hash (Some (continues (codes "r") (codes "c" ∷ []))) (got commitment_short ∷ got commitment ∷ [])
+pub secret_is_short : next_answer small_hash (Some (continues None (codes "r") (codes "c" ∷ []))) (got commitment_short ∷ got commitment ∷ [])
     ≡ prints 0 (lines (
+    codes "height 0" ∷
+    codes "contract 0" ∷
     codes "cannot commit 0 A BadSecretLength a" ∷
     codes "never: secret a not of 16 to 520 bytes" ∷
     []))
@@ -151,29 +133,14 @@ unfolding is_name word_prefix number_prefix symbol_prefix read_contract advert_o
 secret_is_short = refl
 
 -- a party that isn't honest adds its digests itself
-pub digest_is_outstanding : next_answer small_hash (Some (continues (codes "r") (codes "c" ∷ [])))
+pub digest_is_outstanding : next_answer small_hash (Some (continues None (codes "r") (codes "c" ∷ [])))
     (got foreign_advertised ∷ got foreign_secret ∷ [])
     ≡ prints 0 (lines (
+    codes "height 0" ∷
+    codes "contract 0" ∷
     codes "can commit 0 A" ∷
     codes "cannot commit 0 B WrongNames" ∷
     codes "needs digest b of B by commit 0 B" ∷
-    codes "cannot endorse 0 A NotAllCommitted" ∷
-    codes "needs A commits 0" ∷
-    codes "needs B commits 0" ∷
-    codes "cannot endorse 0 B NotAllCommitted" ∷
-    codes "needs A commits 0" ∷
-    codes "needs B commits 0" ∷
-    codes "cannot init 0 A NotAllCommitted" ∷
-    codes "needs A commits 0" ∷
-    codes "needs B commits 0" ∷
-    codes "cannot init 0 B NotAllCommitted" ∷
-    codes "needs A commits 0" ∷
-    codes "needs B commits 0" ∷
-    codes "cannot fire init 0 NotCompiled" ∷
-    codes "needs A commits 0" ∷
-    codes "needs B commits 0" ∷
-    codes "needs A inits 0" ∷
-    codes "needs B inits 0" ∷
     codes "waits A" ∷
     codes "waits B" ∷
     []))
@@ -188,12 +155,16 @@ digest_is_outstanding = refl
 -- ---- once it has begun
 
 -- the revealed length makes the predicate false
-pub predicate_is_false : next_answer small_hash (Some (continues (codes "r") (codes "c" ∷ [])))
+pub predicate_is_false : next_answer small_hash (Some (continues None (codes "r") (codes "c" ∷ [])))
     (got long_secret_revealed ∷ got long_secret ∷ [])
     ≡ prints 0 (lines (
+    codes "height 0" ∷
+    codes "contract 0" ∷
     codes "cannot fire #1 0 ScriptFalse 0" ∷
+    codes "path r.0 to r.0 5" ∷
     codes "never: predicate false" ∷
     codes "can fire #1 1" ∷
+    codes "path r.1 pays A 5" ∷
     []))
 unfolding is_name word_prefix number_prefix symbol_prefix read_contract advert_of_all advert_at entries_at entry_at head_at deposit_at
     secret_at
@@ -204,11 +175,15 @@ unfolding is_name word_prefix number_prefix symbol_prefix read_contract advert_o
 predicate_is_false = refl
 
 -- the deposit that is put in has gone
-pub put_is_gone : next_answer small_hash (Some (continues (codes "r") (codes "c" ∷ []))) (got putting_gone ∷ got putting ∷ [])
+pub put_is_gone : next_answer small_hash (Some (continues None (codes "r") (codes "c" ∷ []))) (got putting_gone ∷ got putting ∷ [])
     ≡ prints 0 (lines (
+    codes "height 0" ∷
+    codes "contract 0" ∷
     codes "cannot fire #2 0 MissingInput 1" ∷
+    codes "path r.0 to r.0 5" ∷
     codes "never: put z gone" ∷
     codes "can fire #2 1" ∷
+    codes "path r.1 pays A 5" ∷
     []))
 unfolding is_name word_prefix number_prefix symbol_prefix read_contract advert_of_all advert_at entries_at entry_at head_at deposit_at
     secret_at
@@ -223,7 +198,7 @@ put_is_gone = refl
 pub words_refused : next_answer small_hash None [] ≡ usage
 words_refused = refl
 
-pub read_failed : next_answer small_hash (Some (continues (codes "r") (codes "c" ∷ []))) (got commitment_header ∷ failed ∷ []) ≡ prints 3 []
+pub read_failed : next_answer small_hash (Some (continues None (codes "r") (codes "c" ∷ []))) (got commitment_header ∷ failed ∷ []) ≡ prints 3 []
 read_failed = refl
 
 pub contract_too_long : next_answer small_hash (Some (begins (codes "c"))) (too_long ∷ [])
@@ -236,7 +211,7 @@ unfolding is_name word_prefix number_prefix symbol_prefix read_contract advert_o
     signed_bytes item_of_number play_text next_text next_printed begin_text
 contract_too_long = refl
 
-pub run_too_long : next_answer small_hash (Some (continues (codes "r") (codes "c" ∷ []))) (too_long ∷ got escrow ∷ [])
+pub run_too_long : next_answer small_hash (Some (continues None (codes "r") (codes "c" ∷ []))) (too_long ∷ got escrow ∷ [])
     ≡ prints 6 (lines (codes "run refused limit Size line 0" ∷ []))
 unfolding is_name word_prefix number_prefix symbol_prefix read_contract advert_of_all advert_at entries_at entry_at head_at deposit_at
     secret_at
@@ -247,7 +222,7 @@ unfolding is_name word_prefix number_prefix symbol_prefix read_contract advert_o
 run_too_long = refl
 
 -- a halted run has its last line alone
-pub guessed_run : next_answer small_hash (Some (continues (codes "r") (codes "c" ∷ []))) (got guessing ∷ got commitment ∷ [])
+pub guessed_run : next_answer small_hash (Some (continues None (codes "r") (codes "c" ∷ []))) (got guessing ∷ got commitment ∷ [])
     ≡ prints 7 (lines (codes "guessed A a" ∷ []))
 unfolding is_name word_prefix number_prefix symbol_prefix read_contract advert_of_all advert_at entries_at entry_at head_at deposit_at
     secret_at
@@ -260,24 +235,16 @@ guessed_run = refl
 -- ---- several contracts
 
 -- the first has begun with the only deposit, and the second finds none
-pub two_contracts : next_answer small_hash (Some (continues (codes "r") (codes "c" ∷ codes "d" ∷ [])))
+pub two_contracts : next_answer small_hash (Some (continues None (codes "r") (codes "c" ∷ codes "d" ∷ [])))
     (got lone_run ∷ got lone ∷ got lone ∷ [])
     ≡ prints 0 (lines (
+    codes "height 0" ∷
+    codes "contract 0" ∷
     codes "can fire #1 0" ∷
+    codes "path r.0 pays A 5" ∷
+    codes "contract 1" ∷
     codes "cannot advertise 1 WrongNames" ∷
     codes "needs deposit x" ∷
-    codes "cannot commit 1 A NotAdvertised" ∷
-    codes "needs advertise 1" ∷
-    codes "cannot endorse 1 A NotAllCommitted" ∷
-    codes "needs advertise 1" ∷
-    codes "needs A commits 1" ∷
-    codes "cannot init 1 A NotAllCommitted" ∷
-    codes "needs advertise 1" ∷
-    codes "needs A commits 1" ∷
-    codes "cannot fire init 1 NotCompiled" ∷
-    codes "needs advertise 1" ∷
-    codes "needs A commits 1" ∷
-    codes "needs A inits 1" ∷
     []))
 unfolding is_name word_prefix number_prefix symbol_prefix read_contract advert_of_all advert_at entries_at entry_at head_at deposit_at
     secret_at

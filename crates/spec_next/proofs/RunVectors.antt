@@ -272,3 +272,71 @@ lone_run =
     codes "init 0 A" ∷
     codes "fire init 0" ∷
     [])
+
+-- the commitment, of which B took the money
+abbrev pub commitment_over : List ℕ
+commitment_over =
+    lines (
+    codes "party A" ∷
+    codes "party B" ∷
+    codes "honest A" ∷
+    codes "honest B" ∷
+    codes "secret A a 00112233445566778899aabbccddeeff" ∷
+    codes "deposit A 100000000" ∷
+    codes "deposit B 0" ∷
+    codes "--" ∷
+    codes "advertise 0 x=#0 y=#1" ∷
+    codes "commit 0 A" ∷
+    codes "commit 0 B" ∷
+    codes "endorse 0 A" ∷
+    codes "endorse 0 B" ∷
+    codes "init 0 A" ∷
+    codes "init 0 B" ∷
+    codes "fire init 0" ∷
+    codes "mine 1000" ∷
+    codes "fire #2 1" ∷
+    [])
+
+-- the contract with a put, with its deposit
+abbrev pub putting_opened : List ℕ
+putting_opened =
+    lines (
+    codes "party A" ∷
+    codes "honest A" ∷
+    codes "deposit A 5" ∷
+    codes "deposit A 2" ∷
+    codes "--" ∷
+    codes "advertise 0 x=#0 z=#1" ∷
+    codes "commit 0 A" ∷
+    codes "endorse 0 A" ∷
+    codes "init 0 A" ∷
+    codes "fire init 0" ∷
+    [])
+
+-- a contract that is split, with a fee
+abbrev pub splitting : List ℕ
+splitting =
+    lines (
+    codes "{A:! 10 @ x | B:! 10 @ y} fee 1 split [ 9 -> withdraw A, 9 -> withdraw B ]" ∷
+    [])
+
+-- its opening
+abbrev pub splitting_opened : List ℕ
+splitting_opened =
+    lines (
+    codes "party A" ∷
+    codes "party B" ∷
+    codes "honest A" ∷
+    codes "honest B" ∷
+    codes "deposit A 10" ∷
+    codes "deposit B 10" ∷
+    codes "--" ∷
+    codes "advertise 0 x=#0 y=#1" ∷
+    codes "commit 0 A" ∷
+    codes "commit 0 B" ∷
+    codes "endorse 0 A" ∷
+    codes "endorse 0 B" ∷
+    codes "init 0 A" ∷
+    codes "init 0 B" ∷
+    codes "fire init 0" ∷
+    [])

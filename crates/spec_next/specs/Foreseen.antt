@@ -24,6 +24,6 @@ abbrev pub unless_collided : Option (List ℕ × List ℕ) → List ℕ → Prin
 unless_collided (Some pair) text = prints 8 (collided_line (pair.0) (pair.1))
 unless_collided None text = prints 0 text
 
--- what comes next after these events, which halt nothing
-unfoldable pub next_printed : Setup → List Event → Printed
-next_printed s es = unless_collided (foreseen_collision s (last_configuration s es) (last_world s es)) (next_text s es)
+-- what comes next after these events, which halt nothing, for all or for one party
+unfoldable pub next_printed : Option (List ℕ) → Setup → List Event → Printed
+next_printed party s es = unless_collided (foreseen_collision s (last_configuration s es) (last_world s es)) (next_text party s es)

@@ -2,7 +2,10 @@ pub mod Bindings
 pub mod Candidates
 pub mod RequirementText
 pub mod Requirements
+pub mod Hands
+pub mod Leads
 pub mod Prospects
+pub mod Listed
 pub mod OutlookText
 pub mod Foreseen
 pub mod FirstLines

@@ -2,14 +2,15 @@
 --
 --  0  what comes next, or the first lines of a run
 --  1  a contract file is refused
---  2  the words aren't a contract, or a run and up to 16 contracts
+--  2  the words aren't a contract, nor a run and up to 16 contracts, which may stand behind `--for` and a party
 --  3  a read failed; nothing is written
 --  4  the write failed; a prefix of the text is written
 --  5  memory ran out; nothing is written
 --  6  the run file is refused
 --  7  an event of the run guesses a secret: its last line alone
 --  8  the opening or an event of the run collides, or what is hashed in asking what may come next: the line of the two messages alone
-use Rattle.std.specs.Prelude.{ℕ, List, [], ◌∷◌, length, map, nat_le, Option, Some, None, Ok, Err}
+use Rattle.std.specs.Prelude.{ℕ, List, [], ◌∷◌, length, map, nat_le, codes, if◌then◌else◌, Option, Some, None, Ok, Err}
+use Rattle.std.specs.Str.{bytes_eq}
 use Rattle.spec_data.specs.Ranges.{most_contracts}
 use Rattle.spec_terms.specs.Advert.{Advert}
 use Rattle.spec_text.specs.Words.{given}
@@ -26,23 +27,30 @@ use Rattle.spec_next.specs.FirstLines.{begin_text}
 pub data NextCommand : Type 0 where
   -- the first lines of a run of a contract
   begins : (contract : List ℕ) → NextCommand
-  -- what comes next after a run with contracts
-  continues : (run : List ℕ) → (contracts : List (List ℕ)) → NextCommand
+  -- what comes next after a run with contracts, for all or for one party
+  continues : (party : Option (List ℕ)) → (run : List ℕ) → (contracts : List (List ℕ)) → NextCommand
 
 -- the files that are read
 abbrev pub next_files : NextCommand → List Asked
 next_files (begins contract) = contract_file contract ∷ []
-next_files (continues run contracts) = run_file run ∷ map contract_file contracts
+next_files (continues party run contracts) = run_file run ∷ map contract_file contracts
 
 -- a run and up to 16 contracts
-abbrev pub continued : List ℕ → List (List ℕ) → Option NextCommand
-continued run contracts = given (nat_le (length contracts) most_contracts) (continues run contracts)
+abbrev pub continued : Option (List ℕ) → List ℕ → List (List ℕ) → Option NextCommand
+continued party run contracts = given (nat_le (length contracts) most_contracts) (continues party run contracts)
+
+-- the same behind a party
+abbrev pub continued_for : List ℕ → List (List ℕ) → Option NextCommand
+continued_for party [] = None
+continued_for party (run ∷ []) = None
+continued_for party (run ∷ contract ∷ contracts) = continued (Some party) run (contract ∷ contracts)
 
 -- the command that the words are, if they are one
 abbrev pub next_words : List (List ℕ) → Option NextCommand
 next_words [] = None
 next_words (contract ∷ []) = Some (begins contract)
-next_words (run ∷ contract ∷ contracts) = continued run (contract ∷ contracts)
+next_words (word ∷ second ∷ words) =
+    if bytes_eq word (codes "--for") then continued_for second words else continued None word (second ∷ words)
 
 -- ---- answers
 
@@ -50,18 +58,23 @@ abbrev pub begins_judged : Judged Advert → Printed
 begins_judged (Ok advert) = prints 0 (begin_text advert)
 begins_judged (Err why) = contract_refused 0 why
 
--- what is answered to the texts of the files: one is a contract, of more the first is a run
-abbrev pub next_texts : (List ℕ → List ℕ) → List Text → Printed
-next_texts hash [] = usage
-next_texts hash (contract ∷ []) = begins_judged (contract_in contract)
-next_texts hash (run ∷ contract ∷ contracts) =
-    both_judged (if_whole next_printed) hash (run_in run) (contracts_in 0 (contract ∷ contracts))
+-- the party for which a command asks, if it does for one
+abbrev pub party_of : NextCommand → Option (List ℕ)
+party_of (begins contract) = None
+party_of (continues party run contracts) = party
 
-abbrev pub read_next : (List ℕ → List ℕ) → Option (List Text) → Printed
-read_next hash None = prints 3 []
-read_next hash (Some texts) = next_texts hash texts
+-- what is answered for this party to the texts of the files: one is a contract, of more the first is a run
+abbrev pub next_texts : (List ℕ → List ℕ) → Option (List ℕ) → List Text → Printed
+next_texts hash party [] = usage
+next_texts hash party (contract ∷ []) = begins_judged (contract_in contract)
+next_texts hash party (run ∷ contract ∷ contracts) =
+    both_judged (if_whole (next_printed party)) hash (run_in run) (contracts_in 0 (contract ∷ contracts))
+
+abbrev pub read_next : (List ℕ → List ℕ) → Option (List ℕ) → Option (List Text) → Printed
+read_next hash party None = prints 3 []
+read_next hash party (Some texts) = next_texts hash party texts
 
 -- what the words answer; those that are no command read nothing
 abbrev pub next_answer : (List ℕ → List ℕ) → Option NextCommand → List Read → Printed
 next_answer hash None reads = usage
-next_answer hash (Some command) reads = read_next hash (texts_read reads)
+next_answer hash (Some command) reads = read_next hash (party_of command) (texts_read reads)

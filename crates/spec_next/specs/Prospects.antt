@@ -24,6 +24,7 @@ use Rattle.spec_next.specs.declared.outlook.Ruling.TheVariants as rulings
 use Rattle.spec_next.specs.declared.outlook.Prospect.{Prospect}
 use Rattle.spec_next.specs.declared.outlook.Outlook.{Outlook}
 use Rattle.spec_next.specs.Candidates.{candidates}
+use Rattle.spec_next.specs.Hands.{is_in_hand}
 use Rattle.spec_next.specs.Requirements.{requirements_of}
 
 -- ---- what an event would come to
@@ -100,8 +101,12 @@ requirements_by required rulings.Can = []
 requirements_by required (rulings.Cannot reason) = decisive (lasting reason ++ required)
 requirements_by required rulings.Halts = []
 
+-- what is missing for an event, but for what a signature by hand gives
+abbrev pub outstanding : Setup → Configuration → World → Event → List Requirement
+outstanding s g w e = filter (λ requirement. not (is_in_hand s w requirement)) (requirements_of s g w e)
+
 abbrev pub prospect : Setup → Configuration → World → Event → Prospect
-prospect s g w e = record { event = e; ruling = ruling s w e; requirements = requirements_by (requirements_of s g w e) (ruling s w e) }
+prospect s g w e = record { event = e; ruling = ruling s w e; requirements = requirements_by (outstanding s g w e) (ruling s w e) }
 
 -- the prospects of these candidates
 abbrev pub prospects_of : Setup → Configuration → World → List Event → List Prospect
@@ -132,19 +137,13 @@ living ps =
 
 -- ---- contracts that are over
 
--- whether a branch is taken by the event
-abbrev pub takes : Event → Bool
-takes (events.Fire n i) = true
-takes _ = false
+-- whether a contract has begun, and all its money is gone
+abbrev pub is_over : Configuration → World → ℕ → Bool
+is_over g w k = has_number k w.begun && not (list_any (λ a. a.contract == k) g.active)
 
--- whether a secret is revealed by it, of a contract that has begun
-abbrev pub reveals : Event → Ruling → Bool
-reveals (events.Reveal k party secret) r = not (is_refused r)
-reveals _ r = false
-
--- where no branch of a contract that has begun is left, nothing comes of its secrets
-abbrev pub useful : List Prospect → List Prospect
-useful ps = if list_any (λ p. takes p.event) ps then ps else filter (λ p. not (reveals p.event p.ruling)) ps
+-- of a contract that is over nothing is ahead but what it would go on by
+abbrev pub useful : Bool → List Prospect → List Prospect
+useful over ps = if over then filter (λ p. goes_on p.event p.ruling) ps else ps
 
 -- ---- on whom something waits
 
@@ -241,12 +240,17 @@ waits g people ps = filter (λ party. is_waited_for g ps party) people
 
 -- ---- contracts
 
-abbrev pub outlook_by : Configuration → List (List ℕ) → List Prospect → Outlook
-outlook_by g people ps = record { prospects = living (useful ps); waits = waits g people (living (useful ps)) }
+abbrev pub outlook_by : Configuration → Bool → ℕ → List (List ℕ) → List Prospect → Outlook
+outlook_by g over k people ps = record {
+  contract = k;
+  parties = people;
+  prospects = living (useful over ps);
+  waits = waits g people (living (useful over ps));
+}
 
 -- what comes next of contract k
 abbrev pub outlook : Setup → Configuration → World → ℕ → Advert → Outlook
-outlook s g w k advert = outlook_by g (participants advert) (prospects_of s g w (candidates s g w k advert))
+outlook s g w k advert = outlook_by g (is_over g w k) k (participants advert) (prospects_of s g w (candidates s g w k advert))
 
 -- of the contracts from number k on
 abbrev pub outlooks_from : Setup → Configuration → World → ℕ → List Advert → List Outlook

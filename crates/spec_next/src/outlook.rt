@@ -42,8 +42,11 @@ impl Drop for Prospect {
     }
 }
 
-/// The events that a contract has ahead, and the parties that can give now what is missing for one of them.
+/// A contract by its number, who takes part in it, the events that it has ahead, and the parties that can give now what is
+/// missing for one of them.
 pub struct Outlook {
+    pub contract: u32,
+    pub parties: Seq<Name>,
     pub prospects: Seq<Prospect>,
     pub waits: Seq<Name>,
 }
@@ -51,6 +54,8 @@ pub struct Outlook {
 impl Drop for Outlook {
     fn drop(self) {
         let Outlook {
+            contract: _,
+            parties: _,
             prospects: _,
             waits: _,
         } = self;
@@ -89,6 +94,8 @@ impl Outlook {
         ensures { IfOk result (λ outlook. outlook ≡ self.now) }
     {
         Ok(Outlook {
+            contract: self.contract,
+            parties: self.parties.copy(alloc)?,
             prospects: copy_prospects(alloc, self.prospects.as_slice())?,
             waits: self.waits.copy(alloc)?,
         })

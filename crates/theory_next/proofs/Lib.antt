@@ -8,6 +8,9 @@ pub mod Ready
 pub mod OneMore
 pub mod MetAlone
 pub mod Waits
+pub mod Listed
+pub mod Hands
+pub mod Leads
 pub mod Once
 pub mod FirstLines
 pub mod FirstRun

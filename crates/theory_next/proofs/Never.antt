@@ -1,9 +1,11 @@
 -- Where something never comes.
 use Rattle.std.proofs.Common.{◌≡◌, ℕ, List, [], ◌∷◌, ◌++◌, map, Bool, true, false, refl, sym, ap, ◌∙◌, subst, inl, inr, ◌⊎◌}
-use Rattle.std.specs.Prelude.{flat_map, not, ◌&&◌, ◌||◌, if◌then◌else◌}
+use Rattle.std.specs.Prelude.{flat_map, ◌==◌, not, ◌&&◌, ◌||◌, if◌then◌else◌}
 use Rattle.std.specs.List.{filter, list_all, list_any}
 use Rattle.std.proofs.lemmas.Bool.{and_parts, and_from, or_cases, or_left, or_right}
+use Rattle.spec_data.specs.Lists.{has_number}
 use Rattle.spec_terms.specs.Advert.{Advert}
+use Rattle.spec_calculus.specs.declared.parts.ActiveContract.{ActiveContract}
 use Rattle.spec_calculus.specs.Configuration.{Configuration}
 use Rattle.spec_run.specs.declared.event.Event.{Event}
 use Rattle.spec_run.specs.declared.outcome.Reason.{Reason}
@@ -16,10 +18,9 @@ use Rattle.spec_next.specs.declared.outlook.Ruling.TheVariants as rulings
 use Rattle.spec_next.specs.declared.outlook.Prospect.{Prospect}
 use Rattle.spec_terms.specs.Precondition.{persistent, secrets}
 use Rattle.spec_run.specs.declared.event.Event.TheVariants as events
-use Rattle.spec_next.specs.Candidates.{people, committing, endorsing, starting, revealing, taking_active, actives_of, candidates}
-use Rattle.spec_next.specs.Requirements.{requirements_of}
+use Rattle.spec_next.specs.Candidates.{people, advertising, committing, endorsing, starting, revealing, taking_active, actives_of, candidates}
 use Rattle.spec_next.specs.Prospects.{ruling, lasting, is_never, decisive, requirements_by, is_refused, is_lost, goes_on, living, prospect, outlook}
-use Rattle.spec_next.specs.Prospects.{is_shown, takes, reveals, useful, prospects_of}
+use Rattle.spec_next.specs.Prospects.{is_shown, is_over, useful, outstanding, prospects_of}
 use Rattle.theory_calculus.specs.Members.{Is_in}
 use Rattle.theory_calculus.proofs.Members.{in_append, in_filter, filter_has, in_from_contains, contains_from_in, all_in}
 use Rattle.theory_next.proofs.Exact.{from_map}
@@ -49,7 +50,7 @@ by_any f [] h = refl
 by_any f (x ∷ xs) h =
     let e = h x (inl refl) in ap (λ b. b || list_any f xs) e ∙ by_any f xs (λ y i. h y (inr i))
 
-is_false : (b : Bool) → not b ≡ true → b ≡ false
+pub is_false : (b : Bool) → not b ≡ true → b ≡ false
 is_false true h = cc
 is_false false h = refl
 
@@ -84,13 +85,13 @@ says_what_lacks : (s : Setup) (g : Configuration) (w : World) (e : Event) → Sa
 says_what_lacks s g w e = record {
   nothing = λ h. none (ruling s w e) h;
   all = λ r q h.
-      ap (requirements_by (requirements_of s g w e)) q
+      ap (requirements_by (outstanding s g w e)) q
       ∙ ap (λ b. if b then filter is_never (all_lacking s g w e r) else all_lacking s g w e r)
       (by_any is_never (all_lacking s g w e r) (λ x i. h x (contains_from_in (all_lacking s g w e r) x i)));
   never = λ r q y i n x.
       let ws = all_lacking s g w e r in
       let same : (prospect s g w e).requirements ≡ filter is_never ws =
-      ap (requirements_by (requirements_of s g w e)) q
+      ap (requirements_by (outstanding s g w e)) q
       ∙ ap (λ b. if b then filter is_never ws else ws) (any_in is_never ws y (in_from_contains ws y i) n) in (
         λ h. let f = in_filter is_never ws x (subst (λ (xs : List Requirement). Is_in x xs) same (in_from_contains (prospect s g w e).requirements x h)) in
             (contains_from_in ws x f.0, f.1),
@@ -99,7 +100,7 @@ says_what_lacks s g w e = record {
       );
 }
   where
-    none : (r : Ruling) → is_refused r ≡ false → requirements_by (requirements_of s g w e) r ≡ []
+    none : (r : Ruling) → is_refused r ≡ false → requirements_by (outstanding s g w e) r ≡ []
     none rulings.Can h = refl
     none (rulings.Cannot reason) h = cc
     none rulings.Halts h = refl
@@ -129,60 +130,81 @@ living_has ps p i h = by_test (list_any ends ps)
 
 -- ---- contracts that are over
 
-abbrev keeps : Prospect → Bool
-keeps p = not (reveals p.event p.ruling)
+abbrev going : Prospect → Bool
+going p = goes_on p.event p.ruling
 
-pub in_useful : (ps : List Prospect) (p : Prospect) → Is_in p (useful ps) → Is_in p ps
-in_useful ps p h = by_test (list_any (λ (q : Prospect). takes q.event) ps) h
+pub in_useful : (over : Bool) (ps : List Prospect) (p : Prospect) → Is_in p (useful over ps) → Is_in p ps
+in_useful true ps p i = (in_filter going ps p i).0
+in_useful false ps p i = i
+
+-- what a contract goes on by is ahead of it
+pub useful_has : (over : Bool) (ps : List Prospect) (p : Prospect) → Is_in p ps → goes_on p.event p.ruling ≡ true → Is_in p (useful over ps)
+useful_has true ps p i h = filter_has going ps p i h
+useful_has false ps p i h = i
+
+no_actives : (k : ℕ) (xs : List ActiveContract) → list_any (λ (a : ActiveContract). a.contract == k) xs ≡ false
+    → filter (λ (a : ActiveContract). a.contract == k) xs ≡ []
+no_actives k [] h = refl
+no_actives k (x ∷ xs) h = by_first (λ q. no_actives k xs q) (x.contract == k) h
   where
-    by_test : (b : Bool) → Is_in p (if b then ps else filter keeps ps) → Is_in p ps
-    by_test true i = i
-    by_test false i = (in_filter keeps ps p i).0
+    by_first : (list_any (λ (a : ActiveContract). a.contract == k) xs ≡ false → filter (λ (a : ActiveContract). a.contract == k) xs ≡ [])
+        → (b : Bool) → (b || list_any (λ (a : ActiveContract). a.contract == k) xs) ≡ false
+        → (if b then x ∷ filter (λ (a : ActiveContract). a.contract == k) xs else filter (λ (a : ActiveContract). a.contract == k) xs) ≡ []
+    by_first rest true q = cc
+    by_first rest false q = rest q
 
-pub useful_has : (ps : List Prospect) (p : Prospect) → Is_in p ps → reveals p.event p.ruling ≡ false → Is_in p (useful ps)
-useful_has ps p i h = by_test (list_any (λ (q : Prospect). takes q.event) ps)
-  where
-    by_test : (b : Bool) → Is_in p (if b then ps else filter keeps ps)
-    by_test true = i
-    by_test false = filter_has keeps ps p i (ap not h)
+over_parts : (a b : Bool) → (a && not b) ≡ true → b ≡ false
+over_parts true true h = cc
+over_parts true false h = refl
+over_parts false b h = cc
 
--- what a contract goes on by is no reveal
-pub no_reveal : (e : Event) (r : Ruling) → goes_on e r ≡ true → reveals e r ≡ false
-no_reveal (events.Reveal k party secret) r h = cc
-no_reveal _ r h = refl
-
--- where no contract output is left, no branch is taken
+-- where no contract output is left, a contract goes on by its beginning alone
 module _ (s : Setup) (g : Configuration) (w : World) (k : ℕ) (c : Advert) where
-  not_taking : {A : Type 0} (f : A → Event) → ((x : A) → takes (f x) ≡ false) → (xs : List A) (e : Event) → Is_in e (map f xs) → takes e ≡ false
-  not_taking f h xs e i = let m = from_map f xs e i in ap takes m.2 ∙ h m.0
+  not_going : {A : Type 0} (f : A → Event) → ((x : A) (r : Ruling) → goes_on (f x) r ≡ false) → (xs : List A) (e : Event) (r : Ruling)
+      → Is_in e (map f xs) → goes_on e r ≡ true → ⊥
+  not_going f h xs e r i on = let m = from_map f xs e i in apart_false _ (ap (λ x. goes_on x r) m.2 ∙ h m.0 r) on
+    where
+      apart_false : (b : Bool) → b ≡ false → b ≡ true → ⊥
+      apart_false true q z = cc
+      apart_false false q z = cc
 
-  none_takes : actives_of g k ≡ [] → (e : Event) → Is_in e (candidates s g w k c) → takes e ≡ false
-  none_takes none e (inl q) = ap takes q
-  none_takes none e (inr h) =
+  by_candidate : actives_of g k ≡ [] → (e : Event) (r : Ruling) → Is_in e (candidates s g w k c) → goes_on e r ≡ true → e ≡ events.FireInit k
+  by_candidate none e r (inl q) on = let z : goes_on (advertising g k c) r ≡ true = subst (λ x. goes_on x r ≡ true) q on in cc
+  by_candidate none e r (inr h) on =
       let ps = people s c in
       elim (in_append e (map (committing k) ps) _ h) [
-        | inl a ↦ not_taking (committing k) (λ x. refl) ps e a
-        | inr r ↦ elim (in_append e (endorsing s w k ps) _ r) [
-          | inl a ↦ not_taking (λ party. events.Endorse k party) (λ x. refl) _ e a
-          | inr t ↦ elim (in_append e (starting g k (persistent c.pre) ps) _ t) [
-            | inl a ↦ not_taking (λ party. events.Init k party) (λ x. refl) _ e a
-            | inr (inl q) ↦ ap takes q
-            | inr (inr u) ↦ elim (in_append e (revealing s k (secrets c.pre)) _ u) [
-              | inl a ↦ not_taking (λ (y : List ℕ × List ℕ). events.Reveal k (y.1) (y.0)) (λ x. refl) _ e a
-              | inr v ↦ absurd (subst (λ xs. Is_in e (flat_map (taking_active g ps) xs)) none v)
+        | inl a ↦ absurd (not_going (committing k) (λ x y. refl) ps e r a on)
+        | inr t ↦ elim (in_append e (endorsing s w k ps) _ t) [
+          | inl a ↦ absurd (not_going (λ party. events.Endorse k party) (λ x y. refl) _ e r a on)
+          | inr u ↦ elim (in_append e (starting g k (persistent c.pre) ps) _ u) [
+            | inl a ↦ absurd (not_going (λ party. events.Init k party) (λ x y. refl) _ e r a on)
+            | inr (inl q) ↦ q
+            | inr (inr v) ↦ elim (in_append e (revealing s k (secrets c.pre)) _ v) [
+              | inl a ↦ absurd (not_going (λ (y : List ℕ × List ℕ). events.Reveal k (y.1) (y.0)) (λ x y. refl) _ e r a on)
+              | inr x ↦ absurd (subst (λ xs. Is_in e (flat_map (taking_active g ps) xs)) none x)
             ]
           ]
         ]
       ]
 
-  none_listed : actives_of g k ≡ [] → list_any (λ (q : Prospect). takes q.event) (prospects_of s g w (candidates s g w k c)) ≡ false
-  none_listed none = by_any (λ (q : Prospect). takes q.event) (prospects_of s g w (candidates s g w k c)) each
-    where
-      each : (p : Prospect) → Is_in p (prospects_of s g w (candidates s g w k c)) → takes p.event ≡ false
-      each p i =
-          let m = from_map (prospect s g w) (filter (λ e. is_shown s w e (ruling s w e)) (candidates s g w k c)) p i in
-          let f = in_filter (λ e. is_shown s w e (ruling s w e)) (candidates s g w k c) m.0 m.1 in
-          ap (λ (q : Prospect). takes q.event) m.2 ∙ none_takes none m.0 f.0
+  isnt_refused : (r : Ruling) → goes_on (events.FireInit k) r ≡ true → is_refused r ≡ false
+  isnt_refused rulings.Can h = refl
+  isnt_refused (rulings.Cannot reason) h = cc
+  isnt_refused rulings.Halts h = refl
+
+  begins_alone : is_over g w k ≡ true → (p : Prospect) → Is_in p (useful (is_over g w k) (prospects_of s g w (candidates s g w k c)))
+      → (p.event ≡ events.FireInit k) × (is_refused p.ruling ≡ false)
+  begins_alone h p i =
+      let all = prospects_of s g w (candidates s g w k c) in
+      let none = no_actives k g.active (over_parts (has_number k w.begun) _ h) in
+      let f = in_filter going all p (subst (λ b. Is_in p (useful b all)) h i) in
+      let m = from_map (prospect s g w) (filter (λ e. is_shown s w e (ruling s w e)) (candidates s g w k c)) p f.0 in
+      let j = in_filter (λ e. is_shown s w e (ruling s w e)) (candidates s g w k c) m.0 m.1 in
+      let on : goes_on p.event p.ruling ≡ true = f.1 in
+      let same : p.event ≡ m.0 = ap (λ (q : Prospect). q.event) m.2 in
+      let is : p.event ≡ events.FireInit k =
+      same ∙ by_candidate none m.0 p.ruling j.0 (subst (λ x. goes_on x p.ruling ≡ true) same on) in
+      (is, isnt_refused p.ruling (subst (λ x. goes_on x p.ruling ≡ true) is on))
 
 never_begins : (ps : List Prospect) → NeverBegins ps → list_any ends ps ≡ true
 never_begins ps n = any_in ends ps n.lost (in_from_contains ps n.lost n.there) (and_from _ _ n.is_lost (ap not n.before))
@@ -198,15 +220,8 @@ shows_what_comes s g w k advert = record {
         λ h. contains_from_in (outlook s g w k advert).prospects p
             (subst (λ (xs : List Prospect). Is_in p xs) (sym same) (filter_has kept ps p (in_from_contains ps p h.0) (is_kept p h.1))),
       );
-  over = λ none p h.
-      let i = in_living ps p (in_from_contains (outlook s g w k advert).prospects p h) in
-      let same : ps ≡ filter keeps listed = ap (λ b. if b then listed else filter keeps listed) (none_listed s g w k advert none) in
-      is_false (reveals p.event p.ruling) (in_filter keeps listed p (subst (λ (xs : List Prospect). Is_in p xs) same i)).1;
-  going = λ p q i t j.
-      let same : ps ≡ listed =
-      ap (λ b. if b then listed else filter keeps listed)
-      (any_in (λ (x : Prospect). takes x.event) listed p (in_from_contains listed p i) t) in
-      contains_from_in ps q (subst (λ (xs : List Prospect). Is_in q xs) (sym same) (in_from_contains listed q j));
+  over = λ h p i. begins_alone s g w k advert h p (in_living ps p (in_from_contains (outlook s g w k advert).prospects p i));
+  going = λ h. ap (λ b. useful b listed) h;
 }
   where
     listed : List Prospect

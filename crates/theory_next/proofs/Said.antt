@@ -23,13 +23,13 @@ use Rattle.spec_next.specs.declared.outlook.Ruling.{Ruling}
 use Rattle.spec_next.specs.declared.outlook.Ruling.TheVariants as rulings
 use Rattle.spec_next.specs.declared.outlook.Outlook.{Outlook}
 use Rattle.spec_next.specs.Candidates.{candidates, candidates_from, all_candidates}
-use Rattle.spec_next.specs.Prospects.{ruling_by, ruling_of, ruling, is_shown, is_refused as is_turned_down, goes_on, prospect, outlook, outlooks_from, outlooks}
+use Rattle.spec_next.specs.Prospects.{ruling_by, ruling_of, ruling, is_shown, is_refused as is_turned_down, goes_on, is_over, prospect, outlook, outlooks_from, outlooks}
 use Rattle.theory_calculus.specs.Members.{Is_in}
 use Rattle.theory_calculus.proofs.Members.{in_append, in_from_contains, contains_from_in, filter_has}
 use Rattle.theory_offers.proofs.WholeRun.{kept_offers}
 use Rattle.theory_next.specs.Candidates.{GoesThrough, CanIsMeant, all_prospects, IsSaid, OffersAreSaid}
 use Rattle.theory_next.proofs.Complete.{in_flat_map, from_flat_map, offers_are_candidates}
-use Rattle.theory_next.proofs.Never.{living_has, useful_has, no_reveal}
+use Rattle.theory_next.proofs.Never.{living_has, useful_has}
 use Rattle.theory_next.proofs.Exact.{in_map}
 
 -- ---- what goes through
@@ -111,8 +111,8 @@ module _ (s : Setup) (g : Configuration) (w : World) where
     | inl a ↦ (
       outlook s g w k c,
       inl refl,
-      living_has _ (prospect s g w e) (useful_has _ (prospect s g w e) (in_map (prospect s g w) _ e (filter_has (λ x. is_shown s w x (ruling s w x))
-          (candidates s g w k c) e a t)) (no_reveal e (ruling s w e) on)) on,
+      living_has _ (prospect s g w e) (useful_has (is_over g w k) _ (prospect s g w e) (in_map (prospect s g w) _ e (filter_has (λ x. is_shown s w x (ruling s w x))
+          (candidates s g w k c) e a t)) on) on,
     )
     | inr a ↦ let r = said_from (k + 1) cs e a t on in (r.0, inr r.1, r.2)
   ]

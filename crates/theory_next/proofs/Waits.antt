@@ -38,10 +38,11 @@ use Rattle.spec_next.specs.declared.outlook.Ruling.TheVariants as rulings
 use Rattle.spec_next.specs.declared.outlook.Prospect.{Prospect}
 use Rattle.spec_next.specs.Candidates.{people, committing, endorsing, starting, revealing, authorising, taking, taking_active, actives_of}
 use Rattle.spec_next.specs.Candidates.{has_endorsed, candidates}
+use Rattle.spec_next.specs.Hands.{is_in_hand}
 use Rattle.spec_next.specs.Requirements.{Condition, agreed, bound, isnt_gone, endorsed, endorsed_for, started, asked_by_branch, secret_requirement, conditions, unmet, requirements_of}
 use Rattle.spec_next.specs.Prospects.{is_commitment, is_endorsement, is_start, is_authorisation, is_reveal}
 use Rattle.spec_next.specs.Prospects.{ruling_by, ruling, ruling_of, is_ahead, is_shown, requirements_by, prospect, prospects_of, awaited, is_for_whom, is_for, gives, can_come}
-use Rattle.spec_next.specs.Prospects.{is_never, living, useful, is_given, is_open, is_at_hand, is_waited_for, outlook}
+use Rattle.spec_next.specs.Prospects.{is_never, living, is_over, useful, outstanding as left, is_given, is_open, is_at_hand, is_waited_for, outlook}
 use Rattle.theory_calculus.specs.Members.{Is_in}
 use Rattle.theory_calculus.proofs.Members.{in_append, in_filter, filter_has, in_from_contains, contains_from_in, all_append, all_in}
 use Rattle.theory_calculus.proofs.Names.{bytes-true, bytes_refl}
@@ -345,7 +346,7 @@ module _ (s : Setup) (es : List Event) (run : IsRun s es) (k : ℕ) (c : Advert)
   w = last_world s es
 
   abbrev listed : List Prospect
-  listed = living (useful (prospects_of s g w (candidates s g w k c)))
+  listed = living (useful (is_over g w k) (prospects_of s g w (candidates s g w k c)))
 
   tracks : Tracks s (run_posts s es) g w
   tracks =
@@ -366,15 +367,22 @@ module _ (s : Setup) (es : List Event) (run : IsRun s es) (k : ℕ) (c : Advert)
 
   lacks : (p : Prospect) (x : Requirement) → is_never x ≡ false → Is_in p listed → Is_in x p.requirements → Lacks p x
   lacks p x may i h =
-      let m = from_map (prospect s g w) (filter (λ e. is_shown s w e (ruling s w e)) (candidates s g w k c)) p (in_useful _ p (in_living _ p i)) in
+      let m = from_map (prospect s g w) (filter (λ e. is_shown s w e (ruling s w e)) (candidates s g w k c)) p
+      (in_useful (is_over g w k) _ p (in_living _ p i)) in
       let f = in_filter (λ e. is_shown s w e (ruling s w e)) (candidates s g w k c) m.0 m.1 in
       by_ruling m.0 m.2 f.0 (ruling s w m.0) f.1 (subst (λ (q : Prospect). Is_in x q.requirements) m.2 h)
     where
       by_ruling : (e : Event) → p ≡ prospect s g w e → Is_in e (candidates s g w k c) → (r : Ruling) → is_shown s w e r ≡ true
-          → Is_in x (requirements_by (requirements_of s g w e) r) → Lacks p x
+          → Is_in x (requirements_by (left s g w e) r) → Lacks p x
       by_ruling e q j rulings.Can t n = absurd n
       by_ruling e q j (rulings.Cannot reason) t n =
-          record { event = e; is = q; candidate = j; outstanding = lacks_condition reason (requirements_of s g w e) x may n; ahead = t }
+          record {
+            event = e;
+            is = q;
+            candidate = j;
+            outstanding = (in_filter (λ y. not (is_in_hand s w y)) (requirements_of s g w e) x (lacks_condition reason (left s g w e) x may n)).0;
+            ahead = t;
+          }
       by_ruling e q j rulings.Halts t n = absurd n
 
   -- whose digest is missing may commit it
@@ -444,7 +452,8 @@ module _ (s : Setup) (es : List Event) (run : IsRun s es) (k : ℕ) (c : Advert)
   by_event x h =
       let f = any_from (λ (p : Prospect). can_come p.ruling && gives x p.event) listed h in
       let t = and_parts (can_come f.one.ruling) (gives x f.one.event) f.passes in
-      let m = from_map (prospect s g w) (filter (λ e. is_shown s w e (ruling s w e)) (candidates s g w k c)) f.one (in_useful _ f.one (in_living _ f.one f.there)) in
+      let m = from_map (prospect s g w) (filter (λ e. is_shown s w e (ruling s w e)) (candidates s g w k c)) f.one
+      (in_useful (is_over g w k) _ f.one (in_living _ f.one f.there)) in
       record {
         event = m.0;
         gives_it = giver_is x m.0 (subst (λ (p : Prospect). gives x p.event ≡ true) m.2 t.1);

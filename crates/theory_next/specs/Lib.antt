@@ -9,3 +9,6 @@ pub mod FirstEvents
 pub mod Never
 pub mod Lasting
 pub mod Waits
+pub mod Listed
+pub mod Hands
+pub mod Leads

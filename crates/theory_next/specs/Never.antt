@@ -11,15 +11,15 @@ use Rattle.spec_run.specs.World.{World}
 use Rattle.spec_next.specs.declared.requirement.Requirement.{Requirement}
 use Rattle.spec_next.specs.declared.outlook.Ruling.TheVariants as rulings
 use Rattle.spec_next.specs.declared.outlook.Prospect.{Prospect}
-use Rattle.spec_next.specs.Candidates.{actives_of, candidates}
-use Rattle.spec_next.specs.Requirements.{requirements_of}
-use Rattle.spec_next.specs.Prospects.{ruling, lasting, is_never, is_refused, is_lost, goes_on, takes, reveals, useful, prospect, prospects_of, outlook}
+use Rattle.spec_run.specs.declared.event.Event.TheVariants as events
+use Rattle.spec_next.specs.Candidates.{candidates}
+use Rattle.spec_next.specs.Prospects.{ruling, lasting, is_never, is_refused, is_lost, goes_on, is_over, useful, outstanding, prospect, prospects_of, outlook}
 
 -- ---- what is said of an event
 
--- all that an event with this refusal lacks: what stays so of the refusal, and its conditions that fail
+-- all that an event with this refusal lacks: what stays so of the refusal, and its conditions that fail and that no signature by hand meets
 abbrev pub all_lacking : Setup → Configuration → World → Event → Reason → List Requirement
-all_lacking s g w e reason = lasting reason ++ requirements_of s g w e
+all_lacking s g w e reason = lasting reason ++ outstanding s g w e
 
 pub record SaysWhatLacks (s : Setup) (g : Configuration) (w : World) (e : Event) : Type 0 where
   -- nothing, where it isn't refused
@@ -36,7 +36,7 @@ pub record SaysWhatLacks (s : Setup) (g : Configuration) (w : World) (e : Event)
 
 -- what it would show if all may come
 abbrev pub all_ahead : Setup → Configuration → World → ℕ → Advert → List Prospect
-all_ahead s g w k advert = useful (prospects_of s g w (candidates s g w k advert))
+all_ahead s g w k advert = useful (is_over g w k) (prospects_of s g w (candidates s g w k advert))
 
 -- one of these that goes before the beginning never comes
 pub record NeverBegins (ps : List Prospect) : Type 0 where
@@ -51,11 +51,11 @@ pub record ShowsWhatComes (s : Setup) (g : Configuration) (w : World) (k : ℕ) 
   -- where it never does, exactly the events that never come, and those by which a contract goes on that has begun or begins
   pub never : NeverBegins (all_ahead s g w k advert) → (p : Prospect) → Contains (outlook s g w k advert).prospects p
       ↔ (Contains (all_ahead s g w k advert) p × ((is_lost p ≡ true) ⊎ (goes_on p.event p.ruling ≡ true)))
-  -- where no contract output is left, no reveal that isn't refused
-  pub over : actives_of g k ≡ [] → (p : Prospect) → Contains (outlook s g w k advert).prospects p → reveals p.event p.ruling ≡ false
-  -- and where one with a branch is, all reveals
-  pub going : (p q : Prospect) → Contains (prospects_of s g w (candidates s g w k advert)) p → takes p.event ≡ true
-      → Contains (prospects_of s g w (candidates s g w k advert)) q → Contains (all_ahead s g w k advert) q
+  -- of one that is over, nothing but a beginning that isn't refused
+  pub over : is_over g w k ≡ true → (p : Prospect) → Contains (outlook s g w k advert).prospects p
+      → (p.event ≡ events.FireInit k) × (is_refused p.ruling ≡ false)
+  -- and of one that isn't, all that is ahead
+  pub going : is_over g w k ≡ false → all_ahead s g w k advert ≡ prospects_of s g w (candidates s g w k advert)
 
 -- of every event and contract in any world
 pub record NeverIsSaid : Type 0 where

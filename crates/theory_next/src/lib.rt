@@ -6,7 +6,10 @@ ghost use Rattle.theory_next.specs.Candidates.{CanIsMeant, OffersAreCandidates, 
 ghost use Rattle.theory_next.specs.FirstEvents.{FirstEventsGoThrough};
 ghost use Rattle.theory_next.specs.FirstLines.{FirstLinesAreARun};
 ghost use Rattle.theory_next.specs.FirstRun.{FirstRunIsARun};
+ghost use Rattle.theory_next.specs.Hands.{HandsCountTheorem};
 ghost use Rattle.theory_next.specs.Lasting.{RefusalsLast};
+ghost use Rattle.theory_next.specs.Leads.{LeadsAreEffects};
+ghost use Rattle.theory_next.specs.Listed.{NothingIsLeftOut};
 ghost use Rattle.theory_next.specs.MetAlone.{MetAloneTheorem};
 ghost use Rattle.theory_next.specs.Never.{NeverIsSaid};
 ghost use Rattle.theory_next.specs.Once.{CandidatesStandOnce};
@@ -52,6 +55,7 @@ pub fn met_alone()
 {}
 
 /// An event that lacks what never comes says that alone; where it goes before the beginning, its contract shows no other such event.
+/// Of a contract that is over nothing is shown.
 pub fn never_is_said()
     ensures { NeverIsSaid }
 {}
@@ -59,6 +63,21 @@ pub fn never_is_said()
 /// What is refused since nobody is honest, or since an honest party's secret isn't there or hasn't the size of one, never comes.
 pub fn refusals_last()
     ensures { RefusalsLast }
+{}
+
+/// What a signature by hand gives isn't said to be missing, and nothing else is left out for it.
+pub fn hands_count()
+    ensures { HandsCountTheorem }
+{}
+
+/// Of what a contract has ahead all is listed, but what may come later than another event of it that is listed.
+pub fn nothing_is_left_out()
+    ensures { NothingIsLeftOut }
+{}
+
+/// What a branch is said to pay or to lead to is what its step makes in the calculus.
+pub fn leads_are_effects()
+    ensures { LeadsAreEffects }
 {}
 
 /// After a run a contract waits exactly for those of its participants who can give now something that is missing for an event of

@@ -46,8 +46,10 @@ returns-in-Ok-clause-sees g c =
     record {
       calm = subst (λ (xs : List Event). Calm g.H.Hash32.digest_of c.args.world.now c.look_all.new.world (foreseen_strings s w xs)) es
           c.in_ok-prospects.ensures.sees.calm;
-      told = c.in-Ok.ensures ∙ ap (outlook_by c.args.config.now (participants c.args.checked.now)) (c.in_ok-prospects.ensures.sees.told
-          ∙ ap (all_foretold s c.args.config.now w) es);
+      told =
+          let here = c.in_ok-prospects.ensures.sees.told ∙ ap (all_foretold s c.args.config.now w) es in
+          c.in-Ok.ensures
+          ∙ (λ i. outlook_by c.args.config.now (c.is_over-over.ensures i) c.args.contract (participants c.args.checked.now) (here i));
     }
 
 pub returns-clause-stopped : goal.returns-clause-stopped

@@ -1,7 +1,11 @@
-use Rattle.std.proofs.Common.{◌≡◌, ◌++◌, take}
+use Rattle.std.proofs.Common.{◌≡◌, ◌++◌, drop}
 use Rattle.std.specs.List.{flat_map}
+use Rattle.std.specs.Prelude.{option_map}
+use Rattle.spec_next.specs.Listed.{of_party}
 use Rattle.spec_next.specs.OutlookText.{waits_line}
 use Rattle.next_text.proofs.outlook.put_waits.Given as goal
 
-abbrev pub invariant-loop-party : goal.invariant-loop-party
-invariant-loop-party l = l.out.items ≡ l.initial.out.items ++ flat_map waits_line (take l.party-index l.parties)
+abbrev pub invariant-loop-name : goal.invariant-loop-name
+invariant-loop-name l =
+    l.out.items ++ flat_map waits_line (of_party (option_map (λ p. p.now) l.party) (drop l.name-index l.names))
+    ≡ l.initial.out.items ++ flat_map waits_line (of_party (option_map (λ p. p.now) l.party) l.names)

@@ -1,0 +1,9 @@
+mod PiecesLemmas
+mod EscapedLemmas
+mod HtmlLemmas
+mod Onto
+mod CellLemmas
+mod WayLemmas
+mod RunLemmas
+mod PageLemmas
+mod SheetLemmas

@@ -1,0 +1,10 @@
+use Rattle.std.specs.Prelude.{◌++◌, ◌∷◌, [], codes}
+use Rattle.spec_page.specs.Html.{element, said}
+use Rattle.draw_page.proofs.Onto.{put_text}
+use Rattle.draw_page.proofs.conditions.put_chip_text.Goals as goal
+
+pub returns : goal.returns
+returns c =
+    put_text c.put_all.result _ _
+    (element (codes "span") ((codes "class", codes "chip " ++ c.args.end.now) ∷ (codes "data-at", c.args.at.now) ∷ []) (said c.args.text.now))
+    c.put_all.ensures

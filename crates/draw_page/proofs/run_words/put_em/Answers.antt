@@ -1,0 +1,7 @@
+use Rattle.std.specs.Prelude.{[], codes}
+use Rattle.spec_page.specs.Html.{element, said}
+use Rattle.draw_page.proofs.Onto.{put_text}
+use Rattle.draw_page.proofs.run_words.put_em.Goals as goal
+
+pub returns : goal.returns
+returns c = put_text c.put_all.result _ _ (element (codes "em") [] (said c.args.note.now)) c.put_all.ensures

@@ -21,11 +21,10 @@ use Rattle.spec_tool.specs.Keyed.Listed.{Listed, path_signers}
 use Rattle.spec_deal.specs.declared.entry.Shown.{Shown}
 use Rattle.spec_deal.specs.Finished.{finished}
 use Rattle.spec_deal.specs.RefusedText.{secrets_refused_line}
-use Rattle.spec_deal.specs.SecretFile.{shows, refused, collided}
+use Rattle.spec_deal.specs.SecretFile.{shows, refused, collided, read_behind}
 use Rattle.spec_deal.proofs.FileVectors.{line, weigh, bet, twin, put, pair, A, B, a, z}
 use Rattle.spec_deal.proofs.SignatureVectors.{keys}
 use Rattle.spec_chain.specs.StateText.{txid_text}
-use Rattle.spec_chain.specs.ToldSecrets.{read_told}
 use Rattle.spec_chain.proofs.DealVectors.{Vectors, string, deal, all_signed, unsigned, of_listed, sent, shown_txid, stranger, line_of_tx, told, stranger_of}
 use Rattle.spec_chain.proofs.StateVectors.{a_bet}
 
@@ -283,7 +282,7 @@ string_names (x ∷ xs) = line x.name (string_names xs)
 
 -- the strings that a text gives to the bet's secrets, or why it is refused
 abbrev read_again : List ℕ → List ℕ
-read_again text = elim (read_told weigh (deal a_bet) [] text) [
+read_again text = elim (read_behind weigh (deal a_bet) [] text) [
   | shows strings ↦ string_names strings
   | refused fault ↦ secrets_refused_line fault
   | collided earlier later ↦ codes "collided"

@@ -4,7 +4,8 @@ pub mod Outputs
 pub mod Following
 pub mod Refusals
 pub mod Chain
-pub mod ToldSecrets
 pub mod Outstanding
 pub mod StateText
 pub mod RefusedText
+pub mod Commands
+pub mod Answers

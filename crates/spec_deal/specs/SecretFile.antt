@@ -59,12 +59,23 @@ abbrev pub named_line : (List ℕ → List ℕ) → Instance → List (List ℕ)
 named_line hash s messages taken n name word =
     if is_among name (needed_secrets s.advert) then with_bytes hash s messages taken n name (read_hex word) else bad reasons.Foreign
 
--- what the words of line n say, behind these strings and the messages that were hashed
+-- what these words of line n give, behind these strings and the messages that were hashed
+abbrev pub secret_line : (List ℕ → List ℕ) → Instance → List (List ℕ) → List Shown → ℕ → List (List ℕ) → Line
+secret_line hash s messages taken n (word ∷ name ∷ hex ∷ []) =
+    if bytes_eq word (codes "secret") then named_line hash s messages taken n name hex else bad reasons.Form
+secret_line hash s messages taken n _ = bad reasons.Form
+
+-- the first words of the lines, other than those of secrets, of a text that says where a deal stands
+abbrev pub state_words : List (List ℕ)
+state_words =
+    codes "confirmed" ∷ codes "step" ∷ codes "gone" ∷ codes "live" ∷ codes "paid" ∷ codes "height" ∷ codes "can" ∷ codes "cannot"
+    ∷ codes "needs" ∷ codes "never:" ∷ codes "waits" ∷ []
+
+-- what the words of line n say; those lines are read over
 abbrev pub line_says : (List ℕ → List ℕ) → Instance → List (List ℕ) → List Shown → ℕ → List (List ℕ) → Line
 line_says hash s messages taken n [] = empty
-line_says hash s messages taken n (word ∷ name ∷ hex ∷ []) =
-    if bytes_eq word (codes "secret") then named_line hash s messages taken n name hex else bad reasons.Form
-line_says hash s messages taken n _ = bad reasons.Form
+line_says hash s messages taken n (word ∷ words) =
+    if is_among word state_words then empty else secret_line hash s messages taken n (word ∷ words)
 
 -- ---- a file
 
@@ -84,11 +95,14 @@ read_lines hash s messages taken n (line ∷ lines) = elim (line_says hash s mes
   | gives shown ↦ read_lines hash s (noted messages shown.bytes) (taken ++ shown ∷ []) (n + 1) lines
 ]
 
--- the strings that a file gives, behind those that were hashed to compile the deal
+-- the strings that a file gives, behind the messages that were hashed
+abbrev pub read_behind : (List ℕ → List ℕ) → Instance → List (List ℕ) → List ℕ → SecretsRead
+read_behind hash s messages text =
+    if nat_lt most_secrets_bytes (length text) then refused faults.Size else read_lines hash s messages [] 1 (lines_of text)
+
+-- the same, behind those that were hashed to compile the deal
 abbrev pub read_secrets : (List ℕ → List ℕ) → Keys → Instance → List ℕ → SecretsRead
-read_secrets hash keys s text =
-    if nat_lt most_secrets_bytes (length text) then refused faults.Size
-    else read_lines hash s (noted_all [] (deal_strings hash keys s)) [] 1 (lines_of text)
+read_secrets hash keys s text = read_behind hash s (noted_all [] (deal_strings hash keys s)) text
 
 -- the string of a secret, where it is given
 abbrev pub string_for : List Shown → List ℕ → Option (List ℕ)

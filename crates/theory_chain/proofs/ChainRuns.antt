@@ -1,21 +1,21 @@
 -- Every chain of a deal that isn't refused is a legal run, whose end is what the chain shows.
-use Rattle.std.proofs.Common.{◌≡◌, ℕ, zero, suc, ◌+◌, ◌-◌, ◌<◌, ◌≤◌, List, [], ◌∷◌, ◌++◌, length, map, Bool, true, false, Option, Some, None}
-use Rattle.std.proofs.Common.{refl, sym, ap, subst, ◌∙◌, inl, inr, cond, arith, append-nil}
+use Rattle.std.proofs.Common.{◌≡◌, ℕ, ◌+◌, ◌-◌, ◌≤◌, List, [], ◌∷◌, length, map, true, Option, Some, None}
+use Rattle.std.proofs.Common.{refl, sym, ap, subst, ◌∙◌, inl, inr, arith}
 use Rattle.std.specs.Prelude.{◌⊎◌, ◌&&◌, nat_le}
-use Rattle.std.specs.List.{Contains, flat_map}
+use Rattle.std.specs.List.{flat_map}
 use Rattle.std.specs.Option.{option_map, option_map_or}
 use Rattle.std.specs.Str.{bytes_eq}
 use Rattle.std.proofs.lemmas.Bool.{and_parts}
 use Rattle.std.proofs.lemmas.Bool.Decides.{nat_tests}
 use Rattle.spec_data.specs.Lists.{look_up}
 use Rattle.spec_data.specs.Ranges.{last_height, least_secret_bytes, most_item_bytes, most_secret_length}
-use Rattle.spec_terms.specs.Precondition.{Holding, deposits, names_of}
+use Rattle.spec_terms.specs.Precondition.{deposits, names_of}
 use Rattle.spec_terms.specs.declared.path.PathStep.{PathStep}
 use Rattle.spec_calculus.specs.declared.step.Owner.TheVariants as owners
 use Rattle.spec_calculus.specs.declared.parts.Deposit.{Deposit as LiveDeposit}
 use Rattle.spec_calculus.specs.Configuration.{Configuration}
 use Rattle.spec_calculus.specs.Moves.{deposit_at}
-use Rattle.spec_calculus.specs.Steps.{after_steps, Legal}
+use Rattle.spec_calculus.specs.Steps.{after_steps}
 use Rattle.spec_compiler.specs.Scripts.{digest_of}
 use Rattle.spec_compiler.specs.Keyed.ByPath.{outpoint_at}
 use Rattle.spec_compiler.specs.Keyed.Instance.{Instance}
@@ -23,7 +23,7 @@ use Rattle.spec_compiler.specs.Keyed.Keys.{Keys}
 use Rattle.spec_compiler.specs.Keyed.Statements.{is_secret}
 use Rattle.spec_compiler.specs.Keyed.Transactions.{Standing}
 use Rattle.spec_terms.specs.Term.{Contract}
-use Rattle.spec_text.specs.Lines.{lines_of, words_of}
+use Rattle.spec_text.specs.Lines.{lines_of}
 use Rattle.spec_deal.specs.declared.entry.Shown.{Shown}
 use Rattle.spec_deal.specs.Setting.{deal_keys, deal_instance}
 use Rattle.spec_deal.specs.Transactions.{transactions}
@@ -40,10 +40,10 @@ use Rattle.spec_chain.specs.ChainFile.{read_chain}
 use Rattle.spec_chain.specs.Following.{State}
 use Rattle.spec_chain.specs.Outputs.{is_position, deposit_outputs}
 use Rattle.spec_chain.specs.Outstanding.{known}
-use Rattle.theory_chain.specs.ChainSteps.{deal_bindings, deal_opening, chain_run, AreLengths, is_taken, left_from, paid_deposit, gone_outside}
+use Rattle.theory_chain.specs.ChainSteps.{deal_bindings, deal_opening, chain_run, AreLengths, is_taken, left_from, paid_deposit}
 use Rattle.theory_chain.specs.Follows.{LeadsTo}
-use Rattle.theory_chain.specs.Files.{GivesHeight, GivesTx, AreLines}
-use Rattle.theory_chain.specs.Runs.{Shows, IsRunWith, ArePlaced, IsRun, ChainsAreRuns}
+use Rattle.theory_chain.specs.Files.{AreLines}
+use Rattle.theory_chain.specs.Runs.{IsRunWith, IsRun, ChainsAreRuns}
 use Rattle.theory_chain.proofs.Courses.{followed_exactly}
 use Rattle.theory_chain.proofs.FileReads.{chains_are_spelled}
 use Rattle.theory_chain.proofs.Stays.{known_fit}
@@ -136,6 +136,9 @@ module _ (hash : List ℕ → List ℕ) (keys : Keys) (s : Instance) (text : Lis
       let p = (chains_are_spelled text (read_chain text).confirmed tip).0
       (λ i. record { confirmed = (read_chain text).confirmed; tip = leads.1 i; fault = leads.0 i }) in
       lines_rise 1 0 (lines_of text) (read_chain text).confirmed tip 0 p.1 (omega arith) (inl refl)
+
+  pub confirmed_spelled : AllSpelled (read_chain text).confirmed
+  confirmed_spelled = spelled.1
 
   module _ (whole : Whole hash keys s) where
     module _ (lengths : List ℕ → ℕ) (are : AreLengths lengths course.state) where

@@ -1,21 +1,20 @@
 -- What can come is accepted by each ledger that has what is live.
-use Rattle.std.proofs.Common.{◌≡◌, ℕ, ◌+◌, ◌≤◌, List, [], ◌∷◌, ◌++◌, map, Bool, true, false, Option, Some, None, refl, sym, ap, subst, ◌∙◌, inl, inr, cond}
+use Rattle.std.proofs.Common.{◌≡◌, ℕ, ◌+◌, ◌≤◌, List, [], ◌∷◌, Bool, true, false, Option, Some, None, refl, sym, ap, subst, ◌∙◌, inl, inr, cond}
 use Rattle.std.specs.Prelude.{◌⊎◌}
-use Rattle.std.specs.List.{Contains, list_all, list_any, flat_map}
+use Rattle.std.specs.List.{list_all, list_any, flat_map}
 use Rattle.std.specs.Option.{option_map, option_map_or}
-use Rattle.std.specs.Str.{bytes_eq}
 use Rattle.spec_data.specs.Lists.{look_up}
 use Rattle.spec_terms.specs.Term as term
 use Rattle.spec_terms.specs.Term.{Contract, branches}
 use Rattle.spec_terms.specs.Core.{core, puts_of}
-use Rattle.spec_terms.specs.Paths.{at, contract_under}
-use Rattle.spec_terms.specs.Precondition.{Holding, persistent, volatile, deposits, names_of}
+use Rattle.spec_terms.specs.Paths.{contract_under}
+use Rattle.spec_terms.specs.Precondition.{Holding, persistent, volatile, names_of}
 use Rattle.spec_terms.specs.declared.path.PathStep.{PathStep}
 use Rattle.spec_bitcoin.specs.declared.tx.OutPoint.{OutPoint}
 use Rattle.spec_compiler.specs.declared.unsigned.Spent.{Spent}
 use Rattle.spec_compiler.specs.declared.unsigned.Unsigned.{Unsigned}
-use Rattle.spec_compiler.specs.Keyed.ByPath.{outpoint_at, position_at}
-use Rattle.spec_compiler.specs.Keyed.Instance.{Instance, branch_path}
+use Rattle.spec_compiler.specs.Keyed.ByPath.{outpoint_at}
+use Rattle.spec_compiler.specs.Keyed.Instance.{Instance}
 use Rattle.spec_compiler.specs.Keyed.Keys.{Keys}
 use Rattle.spec_compiler.specs.Keyed.Transactions.{Standing, deposit, outpoint_or_none, put_deposits, holding_or_none, pays}
 use Rattle.spec_tool.specs.declared.which.Which.{Which}
@@ -40,16 +39,15 @@ use Rattle.spec_chain.specs.declared.output.Output.{Output}
 use Rattle.spec_chain.specs.Chain.{Course}
 use Rattle.spec_chain.specs.Following.{State}
 use Rattle.spec_chain.specs.Outputs.{is_position, is_deposit, is_there, has_place, deposit_outputs, position_of}
-use Rattle.spec_chain.specs.Outstanding.{branches_from, branches_at, branches_of, has_begun, asked, known, deposits_needed, puts_by}
+use Rattle.spec_chain.specs.Outstanding.{branches_from, branches_of, has_begun, asked, known, deposits_needed, puts_by}
 use Rattle.theory_chain.specs.Ledgers.{CanIsAccepted}
 use Rattle.theory_chain.specs.Prospects.{CanExactly, CanOpens}
-use Rattle.theory_chain.specs.Runs.{ArePlaced}
 use Rattle.theory_chain.proofs.ChainRuns.{chain_kept, placed}
 use Rattle.theory_chain.proofs.Deals.Outputs.{any_there, there_of, deposit_of}
 use Rattle.theory_chain.proofs.Deals.Positions.{path_named, branch_at_path}
 use Rattle.theory_chain.proofs.Deals.Taken.{whole_deal}
 use Rattle.theory_chain.proofs.Deals.Transactions.{OfBranch, of_branch, named_path, position_before}
-use Rattle.theory_chain.proofs.Deals.Whole.{Whole, from_map, in_map}
+use Rattle.theory_chain.proofs.Deals.Whole.{from_map}
 use Rattle.theory_chain.proofs.Runs.Kept.{Kept}
 use Rattle.theory_chain.proofs.Stays.{known_fit}
 
@@ -147,7 +145,7 @@ module _ (hash : List ℕ → List ℕ) (keys : Keys) (s : Instance) (course : C
     needed_there : (x : List ℕ) → Is_in x (deposits_needed s which) → has_place course.state.live (outpoint_or_none (look_up x s.bound)) ≡ true
     needed_there x h = deposit_there x (all_in (λ y. list_any (is_deposit y) course.state.live) (deposits_needed s which) x funded h)
 
-  all_there : (which : Which) (l : Listed) → listed_at hash keys s which ≡ Some l → Is_in which (asked s course.state)
+  pub all_there : (which : Which) (l : Listed) → listed_at hash keys s which ≡ Some l → Is_in which (asked s course.state)
       → list_all (λ x. list_any (is_deposit x) course.state.live) (deposits_needed s which) ≡ true
       → (x : Spent) → Is_in x l.pending.spends → has_place course.state.live x.outpoint ≡ true
   all_there names.Init l named h funded x i =

@@ -11,3 +11,11 @@ pub mod Runs
 pub mod ChainRuns
 pub mod Nevers
 pub mod Ledgers
+pub mod Refusing
+pub mod RequirementOrder
+pub mod Ascending
+pub mod GoingOn
+pub mod OwnAccepted
+pub mod Revealed
+pub mod Anywhere
+pub mod Reasons

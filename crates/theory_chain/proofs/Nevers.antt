@@ -1,5 +1,5 @@
 -- What never can come doesn't, whatever is signed and told.
-use Rattle.std.proofs.Common.{◌≡◌, ℕ, List, [], ◌∷◌, ◌++◌, length, map, Bool, true, false, Option, Some, None, refl, sym, ap, subst, ◌∙◌, inl, inr, cond}
+use Rattle.std.proofs.Common.{◌≡◌, ℕ, List, [], ◌∷◌, ◌++◌, length, Bool, true, false, Option, Some, None, refl, sym, ap, subst, ◌∙◌, inl, inr, cond}
 use Rattle.std.specs.Prelude.{◌&&◌, ◌==◌, not, is_some, nat_le, filter}
 use Rattle.std.specs.List.{Contains, list_any, find}
 use Rattle.std.specs.Option.{option_map}
@@ -10,17 +10,12 @@ use Rattle.spec_terms.specs.Term as term
 use Rattle.spec_terms.specs.Core.{core, reveals_of, test_of}
 use Rattle.spec_terms.specs.Value.{holds}
 use Rattle.spec_compiler.specs.Keyed.Statements.{secret_lengths}
-use Rattle.spec_compiler.specs.Keyed.Keys.{Keys}
 use Rattle.spec_compiler.specs.Keyed.Instance.{Instance}
 use Rattle.spec_compiler.specs.Keyed.Statements.{is_secret}
 use Rattle.spec_compiler.specs.Scripts.{digest_of}
 use Rattle.spec_run.specs.Firing.{revealed_by}
-use Rattle.spec_tool.specs.declared.which.Which.{Which}
-use Rattle.spec_tool.specs.Keyed.Listed.{Listed, listed_at}
-use Rattle.spec_text.specs.Lines.{lines_of}
 use Rattle.spec_deal.specs.declared.entry.Shown.{Shown}
 use Rattle.spec_deal.specs.declared.finish.FinishRefusal.TheVariants as refusals
-use Rattle.spec_deal.specs.declared.signed.Signed.{Signed}
 use Rattle.spec_deal.specs.Finished.{bytes_or_none, strings_of, which_branch, predicate_refusal}
 use Rattle.spec_deal.specs.SecretFile.{string_for}
 use Rattle.theory_calculus.specs.Members.{Is_in}
@@ -30,10 +25,8 @@ use Rattle.theory_script.proofs.Keyed.Stands.{some_same}
 use Rattle.theory_deal.specs.Finished.{do_fit}
 use Rattle.spec_chain.specs.declared.requirement.Requirement.{Requirement}
 use Rattle.spec_chain.specs.declared.requirement.Requirement.TheVariants as requirements
-use Rattle.spec_chain.specs.Chain.{Course, stands, follow_chain}
-use Rattle.spec_chain.specs.Following.{State}
 use Rattle.spec_chain.specs.Outputs.{is_deposit}
-use Rattle.spec_chain.specs.Outstanding.{deposits_needed, deposits_outstanding, secrets_outstanding, secret_requirement, known, outstanding, is_never}
+use Rattle.spec_chain.specs.Outstanding.{deposits_needed, secrets_outstanding, secret_requirement, known, outstanding, is_never}
 use Rattle.theory_chain.specs.Nevers.{HaveOneHash, NeverComes}
 use Rattle.theory_chain.specs.Requirements.{IsGone, IsOutstanding}
 use Rattle.theory_chain.proofs.RequirementLines.{requirements_exactly}

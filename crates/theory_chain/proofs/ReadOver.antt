@@ -13,6 +13,7 @@ use Rattle.spec_bitcoin.specs.declared.tx.TxIn.{TxIn}
 use Rattle.spec_bitcoin.specs.declared.tx.TxOut.{TxOut}
 use Rattle.spec_bitcoin.specs.Live.{same_outpoint}
 use Rattle.spec_compiler.specs.Keyed.Instance.{Instance}
+use Rattle.spec_compiler.specs.Keyed.Keys.{Keys}
 use Rattle.spec_tool.specs.declared.which.Which.{Which}
 use Rattle.spec_tool.specs.Keyed.Listed.{same_which}
 use Rattle.spec_deal.specs.declared.transaction.Transaction.{Transaction}
@@ -29,9 +30,9 @@ use Rattle.spec_chain.specs.Chain.{Course, if_matters, gone_on, opening_course}
 use Rattle.spec_chain.specs.ChainFile.{read_chain}
 use Rattle.spec_chain.specs.Following.{which_shown, which_of, string_shown, outputs_of, outputs_named, outputs_made, places_spent, after_transaction, reveal_steps, which_steps, deposit_name, gone_by, happened, matters}
 use Rattle.spec_chain.specs.Outputs.{is_position, is_there, has_place, output_there, without, without_all, deposit_outputs, made_from, made_by, held_by, position_outputs, deal_outputs, transaction_named}
-use Rattle.spec_chain.specs.Refusals.{inputs_reason, own_reason}
+use Rattle.spec_chain.specs.Refusals.{inputs_reason, own_reason, refusal}
 use Rattle.spec_chain.specs.StateText.{state_text}
-use Rattle.theory_chain.specs.Aside.{OthersAreReadOver}
+use Rattle.theory_chain.specs.Aside.{IsAside, OthersAreReadOver}
 use Rattle.theory_chain.specs.Follows.{LeadsTo}
 use Rattle.theory_chain.proofs.Courses.{followed_exactly}
 use Rattle.theory_chain.proofs.Needs.{in_flat}
@@ -228,12 +229,19 @@ module _ (s : Instance) (ts : List Transaction) where
       (none_found (is_there place) live (isnt_live live ours place here))
       ∙ none_gone live ours places later
 
-pub others_are_read_over : OthersAreReadOver
-others_are_read_over hash keys s text course tip c e a =
+-- it isn't bad, and where the deal stands and what happened stay the same
+pub record StaysSame (hash : List ℕ → List ℕ) (s : Instance) (ts : List Transaction) (course : Course) (c : Confirmed) : Type 0 where
+  pub isnt_bad : refusal hash s ts course.state c.height c.tx ≡ None
+  pub state : (gone_on hash s ts course c).state ≡ course.state
+  pub history : (gone_on hash s ts course c).history ≡ course.history
+
+pub stays_same : (hash : List ℕ → List ℕ) (keys : Keys) (s : Instance) (cs : List Confirmed) (course : Course) (c : Confirmed)
+    → LeadsTo hash s (transactions hash keys s) (opening_course hash keys s) cs course → IsAside hash s (transactions hash keys s) course.state c.tx
+    → StaysSame hash s (transactions hash keys s) course c
+stays_same hash keys s cs course c leads a =
     let ts = transactions hash keys s in
     let state = course.state in
-    let p = (followed_exactly hash keys s text course tip).0 e in
-    let ours = stay_ours s ts hash (read_chain text).confirmed (opening_course hash keys s) course p.2 (deposits_ours s ts) in
+    let ours = stay_ours s ts hash cs (opening_course hash keys s) course leads (deposits_ours s ts) in
     let which : which_of s ts c.tx ≡ None
     = ap (λ (o : Option Transaction). option_map (λ (t : Transaction). which_shown s c.tx t.which) o) a.other in
     let made : outputs_made s ts state c.tx ≡ [] = ap (outputs_named s ts state.next) which in
@@ -257,8 +265,20 @@ others_are_read_over hash keys s text course tip c e a =
           (own_reason hash s ts c.height c.tx o)) a.other
           ∙ ap (λ (r : Option ChainReason). or_else r None) (inputs_fine s ts state.live 0 c.tx.inputs a.apart);
       state = same;
-      text = λ tip given strings. λ i. state_text hash keys s (record { state = same i; history = history i; messages = [] }) tip given strings;
+      history = history;
     }
   where
     plus_none : (n : ℕ) → n + 0 ≡ n
     plus_none n = omega arith
+
+pub others_are_read_over : OthersAreReadOver
+others_are_read_over hash keys s text course tip c e a =
+    let p = (followed_exactly hash keys s text course tip).0 e in
+    let r = stays_same hash keys s (read_chain text).confirmed course c p.2 a in
+    let same = r.state in
+    let history = r.history in
+    record {
+      isnt_bad = r.isnt_bad;
+      state = same;
+      text = λ tip given strings. λ i. state_text hash keys s (record { state = same i; history = history i; messages = [] }) tip given strings;
+    }

@@ -8,3 +8,9 @@ pub mod Deals
 pub mod Runs
 pub mod Nevers
 pub mod Ledgers
+pub mod Refused
+pub mod RequirementOrder
+pub mod GoingOn
+pub mod OwnAccepted
+pub mod Revealed
+pub mod Reasons

@@ -31,7 +31,7 @@ use Rattle.spec_deal.specs.SecretFile.{SecretsRead, shows, refused, collided}
 use Rattle.spec_deal.specs.Setting.{deal_keys, deal_instance}
 use Rattle.spec_deal.specs.Verifier.{Verifier}
 use Rattle.theory_deal.specs.Causes.{if_read, if_taken, is_unread, later_causes, deal_causes, causes, first_status, given_of, strings_of}
-use Rattle.theory_deal.specs.Causes.{are_bad, are_clashing, is_unfinished}
+use Rattle.theory_deal.specs.Causes.{are_bad, have_collided, is_unfinished}
 
 -- a transaction that is finished or refused
 unfinished : (o : Option FinishRefusal) (bytes : List ℕ) → (unless_refused o bytes).status ≡ first_status ((is_some o, 16) ∷ [])
@@ -54,7 +54,7 @@ module _ (v : Verifier) (hash : List ℕ → List ℕ) (texts : List Text) (keys
 
   secrets_first : (l : Listed) (given : List Signed) (r : SecretsRead)
       → (with_secrets (λ strings. finished_answer hash keys s l given strings) r).status
-      ≡ first_status ((are_bad r, 15) ∷ (are_clashing r, 8) ∷ (is_unfinished hash keys s given (strings_of r) (Some l), 16) ∷ [])
+      ≡ first_status ((are_bad r, 15) ∷ (have_collided r, 8) ∷ (is_unfinished hash keys s given (strings_of r) (Some l), 16) ∷ [])
   secrets_first l given (shows strings) =
       unfinished (finish_refusal hash keys s given strings l) (spelling (finished hash keys s given strings l))
   secrets_first l given (refused fault) = refl
@@ -62,7 +62,7 @@ module _ (v : Verifier) (hash : List ℕ → List ℕ) (texts : List Text) (keys
 
   finish_with_first : (l : Listed) (r : Result (List Signed) SignatureFault)
       → (with_signatures (λ given. with_secrets (λ strings. finished_answer hash keys s l given strings) secrets) r).status
-      ≡ first_status ((is_err r, 14) ∷ (are_bad secrets, 15) ∷ (are_clashing secrets, 8)
+      ≡ first_status ((is_err r, 14) ∷ (are_bad secrets, 15) ∷ (have_collided secrets, 8)
       ∷ (is_unfinished hash keys s (given_of r) (strings_of secrets) (Some l), 16) ∷ [])
   finish_with_first l (Ok given) = secrets_first l given secrets
   finish_with_first l (Err fault) = refl
@@ -85,7 +85,7 @@ module _ (v : Verifier) (hash : List ℕ → List ℕ) (texts : List Text) (keys
 
   finish_with_there : (which : Which) (o : Option Listed)
       → (if_there (finish_with_answer v hash (text_at texts 2) (text_at texts 3) keys s) which o).status
-      ≡ first_status ((is_none o, 16) ∷ (is_err signatures, 14) ∷ (are_bad secrets, 15) ∷ (are_clashing secrets, 8)
+      ≡ first_status ((is_none o, 16) ∷ (is_err signatures, 14) ∷ (are_bad secrets, 15) ∷ (have_collided secrets, 8)
       ∷ (is_unfinished hash keys s (given_of signatures) (strings_of secrets) o, 16) ∷ [])
   finish_with_there which None = refl
   finish_with_there which (Some l) = finish_with_first l signatures

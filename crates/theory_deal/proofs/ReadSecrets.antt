@@ -19,7 +19,7 @@ use Rattle.spec_deal.specs.Hashed.{deal_strings}
 use Rattle.spec_deal.specs.declared.entry.Shown.{Shown}
 use Rattle.spec_deal.specs.SecretFile.{Line, empty, bad, collides, gives}
 use Rattle.spec_deal.specs.SecretFile.{if_fits, hashed_line, has_length, if_new, with_bytes, named_line}
-use Rattle.spec_deal.specs.SecretFile.{line_says, SecretsRead, shows, refused, collided, read_lines}
+use Rattle.spec_deal.specs.SecretFile.{secret_line, state_words, line_says, SecretsRead, shows, refused, collided, read_lines, read_behind}
 use Rattle.theory_calculus.proofs.Members.{all_append}
 use Rattle.theory_deal.specs.Finished.{do_fit}
 use Rattle.theory_deal.specs.Files.{SecretsFit}
@@ -68,17 +68,26 @@ module _ (hash : List ℕ → List ℕ) (s : Instance) where
       by_test true = bytes_fit messages taken n name (read_hex word)
       by_test false = tt
 
-  line_fits : (messages : List (List ℕ)) (taken : List Shown) (n : ℕ) (words : List (List ℕ))
-      → LineFits (line_says hash s messages taken n words)
-  line_fits messages taken n [] = tt
-  line_fits messages taken n (word ∷ []) = tt
-  line_fits messages taken n (word ∷ (name ∷ [])) = tt
-  line_fits messages taken n (word ∷ (name ∷ (hex ∷ []))) = by_test (bytes_eq word (codes "secret"))
+  secret_line_fits : (messages : List (List ℕ)) (taken : List Shown) (n : ℕ) (words : List (List ℕ))
+      → LineFits (secret_line hash s messages taken n words)
+  secret_line_fits messages taken n [] = tt
+  secret_line_fits messages taken n (word ∷ []) = tt
+  secret_line_fits messages taken n (word ∷ (name ∷ [])) = tt
+  secret_line_fits messages taken n (word ∷ (name ∷ (hex ∷ []))) = by_test (bytes_eq word (codes "secret"))
     where
       by_test : (b : Bool) → LineFits (cond b (named_line hash s messages taken n name hex) (bad reasons.Form))
       by_test true = named_fits messages taken n name hex
       by_test false = tt
-  line_fits messages taken n (word ∷ (name ∷ (hex ∷ (next ∷ words)))) = tt
+  secret_line_fits messages taken n (word ∷ (name ∷ (hex ∷ (next ∷ words)))) = tt
+
+  line_fits : (messages : List (List ℕ)) (taken : List Shown) (n : ℕ) (words : List (List ℕ))
+      → LineFits (line_says hash s messages taken n words)
+  line_fits messages taken n [] = tt
+  line_fits messages taken n (word ∷ words) = by_first (is_among word state_words)
+    where
+      by_first : (b : Bool) → LineFits (cond b empty (secret_line hash s messages taken n (word ∷ words)))
+      by_first true = tt
+      by_first false = secret_line_fits messages taken n (word ∷ words)
 
   lines_fit : (messages : List (List ℕ)) (taken : List Shown) (n : ℕ) (lines : List (List ℕ)) → do_fit hash s taken ≡ true
       → ReadFits (read_lines hash s messages taken n lines)
@@ -103,12 +112,15 @@ module _ (hash : List ℕ → List ℕ) (s : Instance) where
       by_line (collides earlier later) k same more = tt
       by_line (gives x) k same more = more x k
 
-pub secrets_fit : SecretsFit
-secrets_fit hash keys s text strings e = by_size (nat_lt most_secrets_bytes (length text)) e
+-- whatever strings were hashed before the file
+pub behind_fit : (hash : List ℕ → List ℕ) (s : Instance) (messages : List (List ℕ)) (text : List ℕ) (strings : List Shown)
+    → read_behind hash s messages text ≡ shows strings → do_fit hash s strings ≡ true
+behind_fit hash s messages text strings e = by_size (nat_lt most_secrets_bytes (length text)) e
   where
-    by_size : (b : Bool)
-        → cond b (refused faults.Size) (read_lines hash s (noted_all [] (deal_strings hash keys s)) [] 1 (lines_of text)) ≡ shows strings
+    by_size : (b : Bool) → cond b (refused faults.Size) (read_lines hash s messages [] 1 (lines_of text)) ≡ shows strings
         → do_fit hash s strings ≡ true
     by_size true k = cc
-    by_size false k =
-        subst (ReadFits hash s) k (lines_fit hash s (noted_all [] (deal_strings hash keys s)) [] 1 (lines_of text) refl)
+    by_size false k = subst (ReadFits hash s) k (lines_fit hash s messages [] 1 (lines_of text) refl)
+
+pub secrets_fit : SecretsFit
+secrets_fit hash keys s text strings e = behind_fit hash s (noted_all [] (deal_strings hash keys s)) text strings e

@@ -1,10 +1,10 @@
 -- A file of secrets comes to what its lines come to.
 use Rattle.std.proofs.Common.{◌≡◌, ℕ, ◌+◌, ◌<◌, ◌≤◌, List, [], ◌∷◌, ◌++◌, length, Bool, true, false, not, Option, Some, None, refl, sym, ap, subst, ◌∙◌, cond, arith, inl, inr}
-use Rattle.std.specs.Prelude.{Decides, nat_le, nat_lt, ◌&&◌, codes}
+use Rattle.std.specs.Prelude.{Decides, ◌↔◌, nat_le, nat_lt, ◌&&◌, codes}
 use Rattle.std.specs.List.{find}
 use Rattle.std.specs.Option.{option_map}
 use Rattle.std.specs.Str.{bytes_eq}
-use Rattle.std.proofs.lemmas.Bool.{and_parts, and_from}
+use Rattle.std.proofs.lemmas.Bool.{false≢true, and_parts, and_from}
 use Rattle.std.proofs.lemmas.Bool.Decides.{nat_tests}
 use Rattle.std.proofs.lemmas.Slice.Eq.{bytes_eq-Decides}
 use Rattle.spec_data.specs.Digits.{read_hex}
@@ -23,8 +23,9 @@ use Rattle.spec_deal.specs.Needed.{needed_secrets}
 use Rattle.spec_deal.specs.Hashed.{deal_strings}
 use Rattle.spec_deal.specs.SecretFile.{Line, empty, bad, collides, gives}
 use Rattle.spec_deal.specs.SecretFile.{if_fits, hashed_line, has_length, if_new, with_bytes, named_line}
-use Rattle.spec_deal.specs.SecretFile.{line_says, SecretsRead, shows, refused, collided, read_lines, read_secrets}
-use Rattle.theory_deal.specs.SecretLines.{NamesSecret, IsOfSecret, IsFresh, IsLong, IsHashed, IsOther, IsAlone, GivesString, IsNoSecret}
+use Rattle.spec_deal.specs.SecretFile.{secret_line, state_words, line_says, SecretsRead, shows, refused, collided, read_lines, read_behind}
+use Rattle.theory_deal.specs.SecretLines.{NamesSecret, IsOfSecret, IsFresh, IsLong, IsHashed, IsOther, IsAlone, GivesString}
+use Rattle.theory_deal.specs.SecretLines.{IsOfState, SaysNothing, IsNoSecret}
 use Rattle.theory_deal.specs.SecretLines.{IsBadSecret, IsCollision, shown_in, SecretsCome, SecretsAre, SecretFilesAreRead}
 use Rattle.theory_deal.proofs.FirstOf.{refuted, is_false, none_found, none_finds, found_first, first_found}
 
@@ -76,7 +77,7 @@ with_earlier bytes earlier = (earlier, bytes)
 module _ (hash : List ℕ → List ℕ) (s : Instance) (messages : List (List ℕ)) (taken : List Shown) (n : ℕ) where
   -- what is claimed of a line that says this
   abbrev pub SecretSays : List (List ℕ) → Line → Type 0
-  SecretSays words empty = words ≡ []
+  SecretSays words empty = SaysNothing words
   SecretSays words (bad reason) = IsBadSecret hash s messages taken words reason
   SecretSays words (collides earlier later) = IsCollision hash s messages taken words earlier later
   SecretSays words (gives shown) = (shown.line ≡ n) × GivesString hash s messages taken words shown.name shown.bytes
@@ -143,11 +144,14 @@ module _ (hash : List ℕ → List ℕ) (s : Instance) (messages : List (List �
         by_test true e = bytes_say e (read_hex word) refl
         by_test false e = (name, word, refl, e)
 
-  pub secret_said : (words : List (List ℕ)) → SecretSays words (line_says hash s messages taken n words)
-  secret_said [] = refl
-  secret_said (a ∷ []) = record { some = λ e. cc; other = λ name word e. cc }
-  secret_said (a ∷ (b ∷ [])) = record { some = λ e. cc; other = λ name word e. cc }
-  secret_said (a ∷ (b ∷ (c ∷ []))) = by_test (bytes_eq a (codes "secret")) refl
+  abbrev first_word : List ℕ → Bool
+  first_word word = is_among word state_words
+
+  secret_line_said : (a : List ℕ) (words : List (List ℕ)) → first_word a ≡ false
+      → SecretSays (a ∷ words) (secret_line hash s messages taken n (a ∷ words))
+  secret_line_said a [] h = record { some = λ e. cc; no_state = λ e. false≢true (sym h ∙ e); other = λ name word e. cc }
+  secret_line_said a (b ∷ []) h = record { some = λ e. cc; no_state = λ e. false≢true (sym h ∙ e); other = λ name word e. cc }
+  secret_line_said a (b ∷ (c ∷ [])) h = by_test (bytes_eq a (codes "secret")) refl
     where
       other_word : bytes_eq a (codes "secret") ≡ false → (name word : List ℕ) → a ∷ (b ∷ (c ∷ [])) ≡ codes "secret" ∷ (name ∷ (word ∷ []))
           → ⊥
@@ -156,12 +160,22 @@ module _ (hash : List ℕ → List ℕ) (s : Instance) (messages : List (List �
           refuted _ (bytes_eq-Decides a (codes "secret")) e same
 
       by_test : (t : Bool) → bytes_eq a (codes "secret") ≡ t
-          → SecretSays (a ∷ b ∷ c ∷ []) (cond t (named_line hash s messages taken n b c) (bad reasons.Form))
+          → SecretSays (a ∷ (b ∷ (c ∷ []))) (cond t (named_line hash s messages taken n b c) (bad reasons.Form))
       by_test true e =
           subst (λ (w : List ℕ). SecretSays (w ∷ b ∷ c ∷ []) (named_line hash s messages taken n b c))
           (sym ((bytes_eq-Decides a (codes "secret")).0 e)) (named_says b c)
-      by_test false e = record { some = λ k. cc; other = other_word e }
-  secret_said (a ∷ (b ∷ (c ∷ (d ∷ words)))) = record { some = λ e. cc; other = λ name word e. cc }
+      by_test false e = record { some = λ k. cc; no_state = λ k. false≢true (sym h ∙ k); other = other_word e }
+  secret_line_said a (b ∷ (c ∷ (d ∷ words))) h =
+      record { some = λ e. cc; no_state = λ e. false≢true (sym h ∙ e); other = λ name word e. cc }
+
+  pub secret_said : (words : List (List ℕ)) → SecretSays words (line_says hash s messages taken n words)
+  secret_said [] = inl refl
+  secret_said (a ∷ words) = by_first (first_word a) refl
+    where
+      by_first : (t : Bool) → first_word a ≡ t
+          → SecretSays (a ∷ words) (cond t empty (secret_line hash s messages taken n (a ∷ words)))
+      by_first true e = inr e
+      by_first false e = secret_line_said a words e
 
   -- ---- and what is so is said
 
@@ -211,15 +225,30 @@ module _ (hash : List ℕ → List ℕ) (s : Instance) (messages : List (List �
         to_digest h.alone
         ∙ ap (λ (b : Bool). if_fits b (shown_in n name bytes)) ((bytes_eq-Decides (hash bytes) (digest_of s.hashes name)).1 h.fits)
 
-  no_secret_said : (words : List (List ℕ)) → IsNoSecret words → line_says hash s messages taken n words ≡ bad reasons.Form
-  no_secret_said [] h = absurd (h.some refl)
-  no_secret_said (a ∷ []) h = refl
-  no_secret_said (a ∷ (b ∷ [])) h = refl
-  no_secret_said (a ∷ (b ∷ (c ∷ []))) h =
+  no_secret_in : (a : List ℕ) (words : List (List ℕ)) → IsNoSecret (a ∷ words)
+      → secret_line hash s messages taken n (a ∷ words) ≡ bad reasons.Form
+  no_secret_in a [] h = refl
+  no_secret_in a (b ∷ []) h = refl
+  no_secret_in a (b ∷ (c ∷ [])) h =
       ap (λ (t : Bool). cond t (named_line hash s messages taken n b c) (bad reasons.Form))
       (is_false (bytes_eq a (codes "secret")) (bytes_eq-Decides a (codes "secret"))
       (λ e. h.other b c (ap (λ (w : List ℕ). w ∷ b ∷ c ∷ []) e)))
-  no_secret_said (a ∷ (b ∷ (c ∷ (d ∷ words)))) h = refl
+  no_secret_in a (b ∷ (c ∷ (d ∷ words))) h = refl
+
+  not_first : (b : Bool) → (b ≡ true → ⊥) → b ≡ false
+  not_first true h = absurd (h refl)
+  not_first false h = refl
+
+  no_secret_said : (words : List (List ℕ)) → IsNoSecret words → line_says hash s messages taken n words ≡ bad reasons.Form
+  no_secret_said [] h = absurd (h.some refl)
+  no_secret_said (a ∷ words) h =
+      ap (λ (t : Bool). cond t empty (secret_line hash s messages taken n (a ∷ words))) (not_first (first_word a) h.no_state)
+      ∙ no_secret_in a words h
+
+  pub nothing_said : (words : List (List ℕ)) → SaysNothing words → line_says hash s messages taken n words ≡ empty
+  nothing_said words (inl e) = ap (line_says hash s messages taken n) e
+  nothing_said [] (inr h) = absurd h
+  nothing_said (a ∷ words) (inr h) = ap (λ (t : Bool). cond t empty (secret_line hash s messages taken n (a ∷ words))) h
 
   no_bytes : (name word : List ℕ) → ((bytes : List ℕ) → read_hex word ≡ Some bytes → ⊥)
       → with_bytes hash s messages taken n name (read_hex word) ≡ bad reasons.Value
@@ -294,7 +323,7 @@ module _ (hash : List ℕ → List ℕ) (s : Instance) where
       → SecretsCome hash s messages taken n lines read → read_lines hash s messages taken n lines ≡ read
   lines_read messages taken n [] read h = sym h
   lines_read messages taken n (line ∷ lines) read (inl h) =
-      ap (λ words. goes_on messages taken n lines (line_says hash s messages taken n words)) h.0
+      ap (goes_on messages taken n lines) (nothing_said hash s messages taken n (words_of line) h.0)
       ∙ lines_read messages taken (n + 1) lines read h.1
   lines_read messages taken n (line ∷ lines) read (inr (inl h)) =
       ap (goes_on messages taken n lines) (string_said hash s messages taken n (words_of line) h.0 h.1 h.2)
@@ -321,24 +350,27 @@ lt_false m n h = grind (arith, nat_tests)
 abbrev unless_long : SecretsRead → Bool → SecretsRead
 unless_long read b = cond b (refused faults.Size) read
 
-pub secret_files_are_read : SecretFilesAreRead
-secret_files_are_read hash keys s text read = (by_size (nat_lt most_secrets_bytes (length text)) refl, back)
+read_by : (hash : List ℕ → List ℕ) (s : Instance) (messages : List (List ℕ)) (text : List ℕ) (read : SecretsRead)
+    → (read_behind hash s messages text ≡ read) ↔ SecretsAre hash s messages text read
+read_by hash s messages text read = (by_size (nat_lt most_secrets_bytes (length text)) refl, back)
   where
     by_size : (b : Bool) → nat_lt most_secrets_bytes (length text) ≡ b
-        → cond b (refused faults.Size) (read_lines hash s (noted_all [] (deal_strings hash keys s)) [] 1 (lines_of text)) ≡ read
-        → SecretsAre hash keys s text read
+        → cond b (refused faults.Size) (read_lines hash s messages [] 1 (lines_of text)) ≡ read → SecretsAre hash s messages text read
     by_size true k e = inl (lt_from most_secrets_bytes (length text) k, sym e)
     by_size false k e = inr (
       not_lt most_secrets_bytes (length text) k,
-      subst (SecretsCome hash s (noted_all [] (deal_strings hash keys s)) [] 1 (lines_of text)) e
-          (lines_come hash s (noted_all [] (deal_strings hash keys s)) [] 1 (lines_of text)),
+      subst (SecretsCome hash s messages [] 1 (lines_of text)) e (lines_come hash s messages [] 1 (lines_of text)),
     )
 
-    back : SecretsAre hash keys s text read → read_secrets hash keys s text ≡ read
+    back : SecretsAre hash s messages text read → read_behind hash s messages text ≡ read
     back (inl h) =
-        ap (unless_long (read_lines hash s (noted_all [] (deal_strings hash keys s)) [] 1 (lines_of text)))
-        (lt_true most_secrets_bytes (length text) h.0) ∙ sym h.1
+        ap (unless_long (read_lines hash s messages [] 1 (lines_of text))) (lt_true most_secrets_bytes (length text) h.0) ∙ sym h.1
     back (inr h) =
-        ap (unless_long (read_lines hash s (noted_all [] (deal_strings hash keys s)) [] 1 (lines_of text)))
-        (lt_false most_secrets_bytes (length text) h.0)
-        ∙ lines_read hash s (noted_all [] (deal_strings hash keys s)) [] 1 (lines_of text) read h.1
+        ap (unless_long (read_lines hash s messages [] 1 (lines_of text))) (lt_false most_secrets_bytes (length text) h.0)
+        ∙ lines_read hash s messages [] 1 (lines_of text) read h.1
+
+pub secret_files_are_read : SecretFilesAreRead
+secret_files_are_read = record {
+  behind = read_by;
+  first = λ hash keys s text read. read_by hash s (noted_all [] (deal_strings hash keys s)) text read;
+}

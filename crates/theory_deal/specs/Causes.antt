@@ -118,10 +118,10 @@ are_bad (shows strings) = false
 are_bad (refused fault) = true
 are_bad (collided earlier later) = false
 
-abbrev pub are_clashing : SecretsRead → Bool
-are_clashing (shows strings) = false
-are_clashing (refused fault) = false
-are_clashing (collided earlier later) = true
+abbrev pub have_collided : SecretsRead → Bool
+have_collided (shows strings) = false
+have_collided (refused fault) = false
+have_collided (collided earlier later) = true
 
 -- the signatures and the strings that there are
 abbrev pub given_of : Result (List Signed) SignatureFault → List Signed
@@ -161,7 +161,7 @@ later_causes v hash command texts so =
     (so (is_absent hash (named_by command)), 16)
     ∷ (so (λ keys s. reads_signatures command && is_err (signatures_in v hash keys s (text_at texts 2))), 14)
     ∷ (so (λ keys s. reads_secrets command && are_bad (secrets_in hash keys s (text_at texts 3))), 15)
-    ∷ (so (λ keys s. reads_secrets command && are_clashing (secrets_in hash keys s (text_at texts 3))), 8)
+    ∷ (so (λ keys s. reads_secrets command && have_collided (secrets_in hash keys s (text_at texts 3))), 8)
     ∷ (
       so (λ keys s.
           is_unfinished hash keys s (given_of (signatures_in v hash keys s (text_at texts 2))) (strings_by hash command (text_at texts 3) keys s)

@@ -16,7 +16,7 @@ use Rattle.spec_deal.specs.declared.fault.SecretFault.TheVariants as faults
 use Rattle.spec_deal.specs.Sizes.{most_secrets_bytes}
 use Rattle.spec_deal.specs.Needed.{needed_secrets}
 use Rattle.spec_deal.specs.Hashed.{deal_strings}
-use Rattle.spec_deal.specs.SecretFile.{SecretsRead, shows, refused, collided, read_secrets}
+use Rattle.spec_deal.specs.SecretFile.{state_words, SecretsRead, shows, refused, collided, read_behind, read_secrets}
 use Rattle.theory_deal.specs.FirstOf.{NoneIs, IsFirst}
 
 -- ---- a line that gives a string
@@ -63,9 +63,19 @@ pub record GivesString (hash : List ℕ → List ℕ) (s : Instance) (messages :
 
 -- ---- other lines
 
--- there are words, but not those of a secret
+-- the first word begins a line, other than that of a secret, of a text that says where a deal stands
+abbrev pub IsOfState : List (List ℕ) → Type 0
+IsOfState [] = ⊥
+IsOfState (word ∷ words) = is_among word state_words ≡ true
+
+-- the words say nothing of secrets: there are none, or they are of such a line
+abbrev pub SaysNothing : List (List ℕ) → Type 0
+SaysNothing words = (words ≡ []) ⊎ IsOfState words
+
+-- there are words, but neither those of such a line nor those of a secret
 pub record IsNoSecret (words : List (List ℕ)) : Type 0 where
   pub some : words ≡ [] → ⊥
+  pub no_state : IsOfState words → ⊥
   pub other : (name word : List ℕ) → words ≡ codes "secret" ∷ name ∷ word ∷ [] → ⊥
 
 -- the words are bad by this reason, and by none before it
@@ -100,7 +110,7 @@ shown_in n name bytes = record { line = n; name = name; bytes = bytes }
 abbrev pub SecretsCome : (List ℕ → List ℕ) → Instance → List (List ℕ) → List Shown → ℕ → List (List ℕ) → SecretsRead → Type 0
 SecretsCome hash s messages taken n [] read = read ≡ shows taken
 SecretsCome hash s messages taken n (line ∷ lines) read =
-    ((words_of line ≡ []) × SecretsCome hash s messages taken (n + 1) lines read)
+    (SaysNothing (words_of line) × SecretsCome hash s messages taken (n + 1) lines read)
     ⊎ (((name : List ℕ) × (bytes : List ℕ) × GivesString hash s messages taken (words_of line) name bytes
     × SecretsCome hash s (noted messages bytes) (taken ++ shown_in n name bytes ∷ []) (n + 1) lines read)
     ⊎ (((reason : SecretReason) × IsBadSecret hash s messages taken (words_of line) reason
@@ -108,15 +118,18 @@ SecretsCome hash s messages taken n (line ∷ lines) read =
     ⊎ ((earlier : List ℕ) × (later : List ℕ) × IsCollision hash s messages taken (words_of line) earlier later
     × (read ≡ collided earlier later))))
 
--- a text comes to this: one that isn't too long to what its lines come to, behind the strings of the compiled deal
-abbrev pub SecretsAre : (List ℕ → List ℕ) → Keys → Instance → List ℕ → SecretsRead → Type 0
-SecretsAre hash keys s text read =
+-- a text comes to this: one that isn't too long to what its lines come to, behind the strings that were hashed
+abbrev pub SecretsAre : (List ℕ → List ℕ) → Instance → List (List ℕ) → List ℕ → SecretsRead → Type 0
+SecretsAre hash s messages text read =
     ((most_secrets_bytes < length text) × (read ≡ refused faults.Size))
-    ⊎ ((length text ≤ most_secrets_bytes)
-    × SecretsCome hash s (noted_all [] (deal_strings hash keys s)) [] 1 (lines_of text) read)
+    ⊎ ((length text ≤ most_secrets_bytes) × SecretsCome hash s messages [] 1 (lines_of text) read)
 
 -- ---- what is claimed
 
-abbrev pub SecretFilesAreRead : Type 0
-SecretFilesAreRead = (hash : List ℕ → List ℕ) (keys : Keys) (s : Instance) (text : List ℕ) (read : SecretsRead)
-    → (read_secrets hash keys s text ≡ read) ↔ SecretsAre hash keys s text read
+-- of every text, whatever strings were hashed before it: `finish` reads it behind those of the compiled deal, `state` behind those of the
+-- chain
+pub record SecretFilesAreRead : Type 0 where
+  pub behind : (hash : List ℕ → List ℕ) (s : Instance) (messages : List (List ℕ)) (text : List ℕ) (read : SecretsRead)
+      → (read_behind hash s messages text ≡ read) ↔ SecretsAre hash s messages text read
+  pub first : (hash : List ℕ → List ℕ) (keys : Keys) (s : Instance) (text : List ℕ) (read : SecretsRead)
+      → (read_secrets hash keys s text ≡ read) ↔ SecretsAre hash s (noted_all [] (deal_strings hash keys s)) text read

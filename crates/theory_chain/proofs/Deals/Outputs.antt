@@ -1,8 +1,8 @@
 -- The outputs of a deal: its deposits under their numbers, and what its transactions make.
-use Rattle.std.proofs.Common.{◌≡◌, ℕ, zero, suc, ◌+◌, ◌<◌, ◌≤◌, List, [], ◌∷◌, ◌++◌, length, map, Bool, true, false, Option, Some, None}
+use Rattle.std.proofs.Common.{◌≡◌, ℕ, zero, suc, ◌+◌, List, [], ◌∷◌, ◌++◌, Bool, true, false, Some}
 use Rattle.std.proofs.Common.{refl, sym, ap, subst, ◌∙◌, inl, inr, cond, arith}
-use Rattle.std.specs.Prelude.{◌⊎◌, ◌||◌, slice_get, not, ◌&&◌, ◌==◌}
-use Rattle.std.specs.List.{list_any, flat_map, filter}
+use Rattle.std.specs.Prelude.{◌⊎◌, ◌||◌, slice_get, not}
+use Rattle.std.specs.List.{list_any, flat_map}
 use Rattle.std.specs.Str.{bytes_eq}
 use Rattle.std.proofs.lemmas.Bool.{and_parts, not-true, both_ways}
 use Rattle.spec_data.specs.Lists.{look_up, is_among, are_different}
@@ -11,26 +11,25 @@ use Rattle.spec_terms.specs.Term.{Contract}
 use Rattle.spec_terms.specs.declared.path.PathStep.{PathStep}
 use Rattle.spec_bitcoin.specs.declared.tx.OutPoint.{OutPoint}
 use Rattle.spec_bitcoin.specs.declared.tx.TxOut.{TxOut}
-use Rattle.spec_bitcoin.specs.Live.{same_outpoint}
 use Rattle.spec_compiler.specs.Keyed.Instance.{Instance}
 use Rattle.spec_compiler.specs.Keyed.Keys.{Keys}
-use Rattle.spec_compiler.specs.Keyed.Transactions.{Standing, outpoint_or_none, output_outpoint, pays}
+use Rattle.spec_compiler.specs.Keyed.Transactions.{Standing, outpoint_or_none, pays}
 use Rattle.spec_compiler.specs.Keyed.ByPath.{position_at}
-use Rattle.spec_tool.specs.Keyed.Listed.{Listed, listed}
+use Rattle.spec_tool.specs.Keyed.Listed.{listed}
 use Rattle.spec_deal.specs.declared.transaction.Transaction.{Transaction}
 use Rattle.spec_deal.specs.Transactions.{transaction, transactions}
 use Rattle.theory_calculus.specs.Members.{Is_in}
-use Rattle.theory_calculus.proofs.Members.{filter_has, in_filter}
+use Rattle.theory_calculus.proofs.Members.{filter_has}
 use Rattle.theory_calculus.proofs.Names.{in_named, bytes-true, bytes_refl}
 use Rattle.theory_script.proofs.Keyed.Stands.{some_same}
 use Rattle.theory_world.proofs.Same.{place-true, place_refl}
 use Rattle.spec_chain.specs.declared.output.Held.{Held}
-use Rattle.spec_chain.specs.declared.output.Held.TheVariants.{Deposit, Position, Payout}
+use Rattle.spec_chain.specs.declared.output.Held.TheVariants.{Deposit, Position}
 use Rattle.spec_chain.specs.declared.output.Output.{Output}
 use Rattle.spec_chain.specs.Outputs.{is_position, is_there, has_place, deposits_from, deposit_outputs, made_from, made_by, held_by, position_outputs, deal_outputs}
-use Rattle.theory_chain.specs.ChainSteps.{numbered, deal_bindings}
+use Rattle.theory_chain.specs.ChainSteps.{numbered}
 use Rattle.theory_chain.proofs.Deals.Whole.{in_map}
-use Rattle.theory_chain.proofs.Deals.Positions.{in_flat, MadeAt, position_made}
+use Rattle.theory_chain.proofs.Deals.Positions.{in_flat, position_made}
 
 -- ---- lists
 

@@ -1,17 +1,15 @@
 -- A transaction of the deal that isn't bad where it stands: which it is, and that it is the plan's but for its witnesses.
-use Rattle.std.proofs.Common.{◌≡◌, ℕ, suc, ◌+◌, ◌<◌, List, [], ◌∷◌, ◌++◌, length, map, Bool, true, false, Option, Some, None}
+use Rattle.std.proofs.Common.{◌≡◌, ℕ, ◌+◌, ◌<◌, List, [], ◌∷◌, ◌++◌, map, Bool, true, false, Option, Some, None}
 use Rattle.std.proofs.Common.{refl, sym, ap, subst, ◌∙◌, inl, inr, cond, arith}
-use Rattle.std.specs.Prelude.{◌⊎◌, ◌||◌, ◌&&◌, not, nat_lt, if◌then◌else◌, is_some, slice_get}
-use Rattle.std.specs.List.{list_any, list_all, filter, find}
+use Rattle.std.specs.Prelude.{◌&&◌, not, nat_lt, if◌then◌else◌, is_some}
+use Rattle.std.specs.List.{list_any, filter}
 use Rattle.std.specs.Option.{option_map}
-use Rattle.std.specs.Str.{bytes_eq}
 use Rattle.std.proofs.lemmas.Bool.Decides.{nat_tests}
 use Rattle.std.proofs.lemmas.List.{append_cancel_left}
 use Rattle.spec_data.specs.Lists.{look_up, is_among, or_else, first_reason}
-use Rattle.spec_terms.specs.Term as term
-use Rattle.spec_terms.specs.Term.{branches, Contract}
+use Rattle.spec_terms.specs.Term.{Contract}
 use Rattle.spec_terms.specs.Core.{core, lock, puts_of}
-use Rattle.spec_terms.specs.Precondition.{Holding, deposits, persistent, volatile, names_of}
+use Rattle.spec_terms.specs.Precondition.{Holding, deposits, persistent, volatile}
 use Rattle.spec_terms.specs.declared.path.PathStep.{PathStep}
 use Rattle.spec_terms.specs.declared.path.PathStep.TheVariants.{Branch as To}
 use Rattle.spec_bitcoin.specs.declared.label.Label.{Label}
@@ -24,18 +22,17 @@ use Rattle.spec_compiler.specs.declared.unsigned.Unsigned.{Unsigned}
 use Rattle.spec_compiler.specs.Keyed.ByPath.{position_at, unsigned_at}
 use Rattle.spec_compiler.specs.Keyed.Instance.{Instance, branch_path}
 use Rattle.spec_compiler.specs.Keyed.Keys.{Keys}
-use Rattle.spec_compiler.specs.Keyed.Transactions.{Standing, tx_of, input_of, initial_unsigned, branch_unsigned, outpoint_or_none, put_deposits, persistent_deposits, deposit, holding_or_none}
+use Rattle.spec_compiler.specs.Keyed.Transactions.{Standing, tx_of, input_of, initial_unsigned, put_deposits, deposit, holding_or_none}
 use Rattle.spec_compiler.specs.Witness.{chosen_by}
 use Rattle.spec_run.specs.Ledger.{first_witness}
 use Rattle.spec_tool.specs.declared.which.Which.{Which}
 use Rattle.spec_tool.specs.declared.which.Which.TheVariants as names
 use Rattle.spec_tool.specs.Keyed.Listed.{Listed, initial_listed, path_listed, listed, listed_at, same_which}
-use Rattle.spec_deal.specs.declared.transaction.Input.{Input}
 use Rattle.spec_deal.specs.declared.transaction.Transaction.{Transaction}
 use Rattle.spec_deal.specs.SignatureFile.{has_bytes}
 use Rattle.spec_deal.specs.Finished.{choices_at}
 use Rattle.spec_deal.specs.Needed.{needed_deposits}
-use Rattle.spec_deal.specs.Transactions.{input, inputs, transaction, transactions}
+use Rattle.spec_deal.specs.Transactions.{inputs, transaction, transactions}
 use Rattle.theory_bitcoin.specs.Apart.{bare, bare_input}
 use Rattle.theory_bitcoin.proofs.Apart.{stripped_once}
 use Rattle.theory_calculus.specs.Members.{Is_in}

@@ -1,5 +1,5 @@
 -- Positions of a deal lie at different places, each at an output of one of the deal's transactions.
-use Rattle.std.proofs.Common.{◌≡◌, ℕ, zero, suc, ◌+◌, ◌<◌, List, [], ◌∷◌, ◌++◌, length, map, Bool, true, false, Option, Some, None}
+use Rattle.std.proofs.Common.{◌≡◌, ℕ, zero, suc, ◌+◌, ◌<◌, List, [], ◌∷◌, length, map, Bool, true, false, Option, Some, None}
 use Rattle.std.proofs.Common.{refl, sym, ap, subst, ◌∙◌, inl, inr, cond, arith, lit<}
 use Rattle.std.specs.Prelude.{slice_get}
 use Rattle.std.specs.Prelude.{◌||◌, ◌^◌}
@@ -24,32 +24,28 @@ use Rattle.spec_bitcoin.specs.declared.label.Label.TheVariants as labels
 use Rattle.spec_bitcoin.specs.declared.script.Op.{Op}
 use Rattle.spec_bitcoin.specs.declared.tx.OutPoint.{OutPoint}
 use Rattle.spec_bitcoin.specs.declared.tx.TxOut.{TxOut}
-use Rattle.spec_bitcoin.specs.declared.tx.Tx.{Tx}
-use Rattle.spec_bitcoin.specs.Digests.{txid}
 use Rattle.spec_bitcoin.specs.Keys.{IsLabel, IsStep, pay_to}
 use Rattle.spec_bitcoin.specs.Scripts.{script_ops}
 use Rattle.spec_compiler.specs.declared.unsigned.Spent.{Spent}
 use Rattle.spec_compiler.specs.declared.unsigned.Unsigned.{Unsigned}
 use Rattle.spec_compiler.specs.Scripts.{output_ops, demands_of, demands_from}
-use Rattle.spec_compiler.specs.Keyed.ByPath.{PathEnd, at_position, at_branch, branch_end, continued_end, part_end, next_end, end_from, end_at, as_position, as_unsigned, position_at, unsigned_at}
+use Rattle.spec_compiler.specs.Keyed.ByPath.{PathEnd, at_position, at_branch, branch_end, continued_end, part_end, next_end, end_at, as_position, as_unsigned, position_at, unsigned_at}
 use Rattle.spec_compiler.specs.declared.prepared.Prepared.{Prepared}
 use Rattle.spec_compiler.specs.Keyed.Compilation.{path_transactions, scripts, compilation}
-use Rattle.spec_compiler.specs.Keyed.Instance.{Instance, people, branch_path, branch_label, branch_keys, position_script, position_demands}
+use Rattle.spec_compiler.specs.Keyed.Instance.{Instance, people, branch_path, branch_label, branch_keys, position_script}
 use Rattle.spec_compiler.specs.Keyed.Keys.{Keys, key_in}
 use Rattle.spec_compiler.specs.Keyed.Statements.{IsCompiled}
-use Rattle.spec_compiler.specs.Keyed.Transactions.{Standing, prepared, tx_of, output_outpoint, pays, branch_unsigned, continued, continued_value, part_standing, part_position, part_outputs, root_standing, core_outputs}
-use Rattle.spec_tool.specs.declared.which.Which.{Which}
+use Rattle.spec_compiler.specs.Keyed.Transactions.{Standing, prepared, output_outpoint, pays, branch_unsigned, part_standing, part_position, part_outputs, root_standing, core_outputs}
 use Rattle.spec_tool.specs.declared.which.Which.TheVariants as names
 use Rattle.spec_tool.specs.Keyed.Listed.{Listed, initial_listed, path_listed, listed}
 use Rattle.spec_deal.specs.Hashed.{deal_strings}
 use Rattle.spec_deal.specs.Needed.{deal_contract, path_labels, needed_labels}
-use Rattle.spec_chain.specs.declared.output.Held.{Held}
 use Rattle.spec_chain.specs.declared.output.Held.TheVariants.{Position}
 use Rattle.spec_chain.specs.Outputs.{held_by, branch_held, core_held, parts_held}
 use Rattle.theory_calculus.specs.Members.{Is_in}
 use Rattle.theory_calculus.proofs.Members.{in_left, in_right}
 use Rattle.theory_calculus.proofs.Names.{bytes-true}
-use Rattle.theory_script.specs.Keyed.Listed.{StandsAt, at_path}
+use Rattle.theory_script.specs.Keyed.Listed.{at_path}
 use Rattle.theory_script.proofs.Scripts.Demanded.{IsWell, AllWell}
 use Rattle.theory_script.proofs.Keyed.InOrder.{paths_in_order}
 use Rattle.theory_script.proofs.Keyed.Opened.{is_checked, cost_is}

@@ -1,21 +1,17 @@
 -- A deal that isn't refused is whole.
-use Rattle.std.proofs.Common.{◌≡◌, ℕ, List, [], ◌∷◌, map, Option, Some, None, refl, sym, ap, subst, ◌∙◌}
-use Rattle.std.specs.List.{AllByRecursion}
+use Rattle.std.proofs.Common.{◌≡◌, ℕ, List, [], ◌∷◌, map, refl, subst}
 use Rattle.spec_terms.specs.Advert.{Advert}
-use Rattle.spec_bitcoin.specs.declared.tx.Tx.{Tx}
 use Rattle.spec_bitcoin.specs.declared.tx.TxIn.{TxIn}
 use Rattle.spec_bitcoin.specs.Spelling.{IsTransaction}
 use Rattle.spec_compiler.specs.declared.unsigned.Spent.{Spent}
 use Rattle.spec_compiler.specs.Keyed.Instance.{Instance}
 use Rattle.spec_compiler.specs.Keyed.Transactions.{input_of, tx_of}
-use Rattle.spec_run.specs.Firing.{witnessed, with_witnesses}
-use Rattle.spec_tool.specs.Keyed.Listed.{Listed, listed, listed_at}
+use Rattle.spec_run.specs.Firing.{witnessed}
 use Rattle.spec_deal.specs.declared.deal.Deal.{Deal}
 use Rattle.spec_deal.specs.Hashed.{deal_strings}
 use Rattle.spec_deal.specs.Setting.{deal_keys, deal_instance}
 use Rattle.spec_deal.specs.Verifier.{Verifier}
 use Rattle.theory_bitcoin.proofs.Labels.{one_label}
-use Rattle.theory_calculus.specs.Members.{Is_in}
 use Rattle.theory_world.proofs.Hashed.{no_collision_none, no_collision}
 use Rattle.theory_deal.proofs.OfKeys.{deal_of_keys, deal_payable}
 use Rattle.theory_deal.proofs.ReadAgain.{fits}

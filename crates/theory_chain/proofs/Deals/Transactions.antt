@@ -1,39 +1,34 @@
 -- The transactions of a deal by name: what each spends, and what its outputs are.
-use Rattle.std.proofs.Common.{◌≡◌, ℕ, zero, suc, ◌+◌, ◌-◌, List, [], ◌∷◌, ◌++◌, length, map, take, Bool, true, false, Option, Some, None}
-use Rattle.std.proofs.Common.{refl, sym, ap, subst, ◌∙◌, inl, inr, cond, arith, length-append}
+use Rattle.std.proofs.Common.{◌≡◌, ℕ, zero, suc, ◌+◌, ◌-◌, List, [], ◌∷◌, ◌++◌, length, take, true, Option, Some, None}
+use Rattle.std.proofs.Common.{refl, sym, ap, subst, ◌∙◌, arith, length-append}
 use Rattle.std.specs.Prelude.{slice_get}
 use Rattle.std.specs.Option.{option_map, option_and_then}
-use Rattle.spec_data.specs.Lists.{look_up}
-use Rattle.spec_terms.specs.Advert.{Advert}
 use Rattle.spec_terms.specs.Term as term
 use Rattle.spec_terms.specs.Term.{Contract, branches, Parts, no_part, part, parts_list, auth, after, put_reveal, withdraw, split}
-use Rattle.spec_terms.specs.Core.{core, puts_of}
-use Rattle.spec_terms.specs.Paths.{at, path_eq}
+use Rattle.spec_terms.specs.Core.{core}
 use Rattle.spec_terms.specs.PathSameness.{path_eq-Decides}
 use Rattle.spec_terms.specs.declared.path.PathStep.{PathStep}
 use Rattle.spec_terms.specs.declared.path.PathStep.TheVariants.{Branch as To, Part as Into}
 use Rattle.spec_bitcoin.specs.declared.tx.OutPoint.{OutPoint}
 use Rattle.spec_bitcoin.specs.declared.tx.TxOut.{TxOut}
-use Rattle.spec_compiler.specs.declared.unsigned.Spent.{Spent}
 use Rattle.spec_compiler.specs.declared.unsigned.Unsigned.{Unsigned}
 use Rattle.spec_compiler.specs.Keyed.ByPath.{PathEnd, at_position, at_branch, branch_end, continued_end, part_end, next_end, end_at, as_position, as_unsigned, position_at, unsigned_at}
 use Rattle.spec_compiler.specs.Keyed.Instance.{Instance, branch_path}
 use Rattle.spec_compiler.specs.Keyed.Keys.{Keys}
-use Rattle.spec_compiler.specs.Keyed.Transactions.{Standing, tx_of, output_outpoint, pays, branch_unsigned, part_standing, part_position, part_outputs, root_standing, core_outputs, initial_unsigned}
+use Rattle.spec_compiler.specs.Keyed.Transactions.{Standing, output_outpoint, branch_unsigned, part_standing, part_position, part_outputs, root_standing, core_outputs, initial_unsigned}
 use Rattle.spec_tool.specs.declared.which.Which.{Which}
 use Rattle.spec_tool.specs.declared.which.Which.TheVariants as names
 use Rattle.spec_tool.specs.Keyed.Listed.{Listed, path_listed, listed, listed_at, same_which}
 use Rattle.spec_deal.specs.declared.transaction.Transaction.{Transaction}
 use Rattle.spec_deal.specs.Transactions.{transaction, transactions}
 use Rattle.theory_calculus.specs.Members.{Is_in}
-use Rattle.theory_calculus.proofs.Members.{found}
 use Rattle.theory_script.proofs.Keyed.Stands.{some_same, end_from-step, position_stands}
 use Rattle.theory_deal.proofs.Branches.{along}
 use Rattle.spec_chain.specs.declared.output.Held.{Held}
 use Rattle.spec_chain.specs.declared.output.Held.TheVariants.{Deposit, Position, Payout}
-use Rattle.spec_chain.specs.Outputs.{held_by, branch_held, core_held, parts_held, transaction_named, position_of}
+use Rattle.spec_chain.specs.Outputs.{held_by, branch_held, core_held, parts_held, position_of}
 use Rattle.theory_chain.proofs.Deals.Whole.{from_map}
-use Rattle.theory_chain.proofs.Deals.Positions.{path_named, branch_at_path}
+use Rattle.theory_chain.proofs.Deals.Positions.{branch_at_path}
 
 module _ (hash : List ℕ → List ℕ) (keys : Keys) (s : Instance) where
   -- ---- the transaction of a path

@@ -1,17 +1,12 @@
 -- What proofs use of a deal that isn't refused.
-use Rattle.std.proofs.Common.{◌≡◌, ℕ, List, [], ◌∷◌, ◌++◌, map, Bool, true, false, Option, Some, None, refl, sym, ap, subst, ◌∙◌, inl, inr, cond}
-use Rattle.std.specs.Prelude.{◌||◌}
+use Rattle.std.proofs.Common.{◌≡◌, ℕ, List, [], ◌∷◌, ◌++◌, map, true, refl, sym, ap, subst, ◌∙◌, inl, inr}
 use Rattle.std.specs.List.{flat_map}
-use Rattle.std.specs.Str.{bytes_eq}
-use Rattle.std.proofs.lemmas.Bool.{or_left, or_right}
 use Rattle.spec_data.specs.Hashes.{HashesBytes}
 use Rattle.spec_data.specs.Lists.{is_among}
 use Rattle.spec_data.specs.Messages.{noted_all}
 use Rattle.spec_terms.specs.Faults.{IsWellFormed}
-use Rattle.spec_terms.specs.Paths.{path_eq}
 use Rattle.spec_terms.specs.declared.path.PathStep.{PathStep}
 use Rattle.spec_bitcoin.specs.declared.label.Label.{Label}
-use Rattle.spec_bitcoin.specs.declared.tx.Tx.{Tx}
 use Rattle.spec_bitcoin.specs.declared.tx.TxIn.{TxIn}
 use Rattle.spec_bitcoin.specs.Digests.{txid, txid_strings, shared_strings}
 use Rattle.spec_bitcoin.specs.Keys.{IsLabel}
@@ -30,7 +25,6 @@ use Rattle.spec_deal.specs.Needed.{deal_contract, needed_labels}
 use Rattle.theory_bitcoin.specs.Apart.{bare, bare_input}
 use Rattle.theory_bitcoin.proofs.Apart.{stripped_once}
 use Rattle.theory_calculus.specs.Members.{Is_in}
-use Rattle.theory_calculus.proofs.Names.{among-append}
 use Rattle.theory_world.specs.KeptApart.{NoCollision}
 use Rattle.theory_world.proofs.Hashed.{among_head, among_tail, among_left, among_right, all_new}
 use Rattle.theory_deal.specs.Finished.{IsApplied}

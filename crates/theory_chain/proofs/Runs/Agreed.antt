@@ -1,16 +1,14 @@
 -- What is legal whatever a chain does: the contract is advertised and agreed on, secrets are revealed, and time passes.
-use Rattle.std.proofs.Common.{◌≡◌, ℕ, zero, suc, ◌+◌, ◌-◌, ◌<◌, ◌≤◌, List, [], ◌∷◌, ◌++◌, length, map, Bool, true, false, Option, Some, None}
+use Rattle.std.proofs.Common.{◌≡◌, ℕ, suc, ◌+◌, ◌-◌, ◌<◌, ◌≤◌, List, [], ◌∷◌, ◌++◌, length, map, Bool, true, false, Some}
 use Rattle.std.proofs.Common.{refl, sym, ap, subst, ◌∙◌, inl, inr, cond, arith, append-nil, append_assoc, length-append}
-use Rattle.std.specs.Prelude.{◌⊎◌, ◌||◌, ◌&&◌, ◌==◌, not, is_some, if◌then◌else◌, nat_lt, nat_le, slice_get}
-use Rattle.std.specs.List.{list_any, list_all, find}
+use Rattle.std.specs.Prelude.{◌||◌, ◌&&◌, ◌==◌, not, is_some, nat_lt, nat_le}
+use Rattle.std.specs.List.{list_any}
 use Rattle.std.specs.Str.{bytes_eq}
 use Rattle.std.proofs.lemmas.Bool.{and_parts, and_from, or_left, or_right, not-true, both_ways, eq-eqb, ne_eqb}
 use Rattle.std.proofs.lemmas.Bool.Decides.{nat_tests}
-use Rattle.spec_data.specs.Lists.{AllTrue, look_up, is_among, are_different, has_number}
+use Rattle.spec_data.specs.Lists.{AllTrue, look_up, is_among, are_different}
 use Rattle.spec_data.specs.Ranges.{last_height, most_secret_length}
-use Rattle.spec_terms.specs.Advert.{Advert}
 use Rattle.spec_terms.specs.Faults.{IsWellFormed}
-use Rattle.spec_terms.specs.Parties.{participants}
 use Rattle.spec_terms.specs.Precondition.{Holding, deposits, secrets, secrets_of, names_of, names_of_party}
 use Rattle.spec_calculus.specs.declared.step.Owner.{Owner}
 use Rattle.spec_calculus.specs.declared.step.Owner.TheVariants as owners
@@ -20,25 +18,23 @@ use Rattle.spec_calculus.specs.declared.parts.Advertised.{Advertised}
 use Rattle.spec_calculus.specs.declared.parts.Committed.{Committed}
 use Rattle.spec_calculus.specs.declared.parts.Deposit.{Deposit as LiveDeposit}
 use Rattle.spec_calculus.specs.declared.parts.Revealed.{Revealed}
-use Rattle.spec_calculus.specs.Beginning.{binds_one, binds_each, are_bound_apart, fits_deposit, is_any_honest, has_committed, have_committed, lists_each, are_known, is_fair}
+use Rattle.spec_calculus.specs.Beginning.{binds_each, are_bound_apart, fits_deposit, is_any_honest, has_committed, lists_each, are_known}
 use Rattle.spec_calculus.specs.Branches.{length_at, is_known, is_revealed}
 use Rattle.spec_calculus.specs.Configuration.{Configuration}
-use Rattle.spec_calculus.specs.Moves.{deposit_at, is_live, made}
-use Rattle.spec_calculus.specs.Same.{owner_eq}
-use Rattle.spec_calculus.specs.Steps.{premises, fails, effect, after_steps, IsLegalRun, Legal, owned, opening, advertise_premises, commit_premises, reveal_premises, delay_premises}
+use Rattle.spec_calculus.specs.Moves.{deposit_at, made}
+use Rattle.spec_calculus.specs.Steps.{fails, after_steps, Legal, owned, commit_premises, reveal_premises}
 use Rattle.spec_compiler.specs.Keyed.Instance.{Instance, people}
 use Rattle.spec_deal.specs.Needed.{deal_contract}
 use Rattle.spec_chain.specs.Following.{reveal_steps}
 use Rattle.theory_calculus.specs.Members.{Is_in}
 use Rattle.theory_calculus.proofs.Funded.{IsFine}
 use Rattle.theory_calculus.proofs.Kept.{fine_after, opening_fine}
-use Rattle.theory_calculus.proofs.Names.{bytes-true, bytes_refl, deposits_different, different_names, in_named}
+use Rattle.theory_calculus.proofs.Names.{bytes-true, bytes_refl, in_named}
 use Rattle.theory_calculus.proofs.Runs.{runs_are_one, kept_along}
 use Rattle.theory_psbt.proofs.KeysDiffer.{participants_differ}
 use Rattle.theory_world.proofs.Contracts.Mentions.{a_person}
-use Rattle.theory_world.proofs.Hashed.{among_head, among_tail, among_split}
+use Rattle.theory_world.proofs.Hashed.{among_head, among_tail}
 use Rattle.theory_world.proofs.Tests.{any-append}
-use Rattle.theory_run.proofs.Steps.CommitSteps.{every}
 use Rattle.theory_run.proofs.Steps.Legal.{passes}
 use Rattle.theory_chain.specs.ChainSteps.{numbered, deal_bindings, deal_opening, with_lengths, commit_step, agreed_steps, pass_to, passed_to}
 

@@ -1,24 +1,22 @@
 -- A chain is a legal run: from the opening on, transaction by transaction.
-use Rattle.std.proofs.Common.{◌≡◌, ℕ, zero, suc, ◌+◌, ◌-◌, ◌<◌, ◌≤◌, List, [], ◌∷◌, ◌++◌, length, map, Bool, true, false, Option, Some, None}
-use Rattle.std.proofs.Common.{refl, sym, ap, subst, ◌∙◌, inl, inr, cond, arith, append_assoc, append-nil}
-use Rattle.std.specs.Prelude.{◌⊎◌, ◌||◌, ◌&&◌, ◌==◌, not, is_some}
-use Rattle.std.specs.List.{list_any, filter, flat_map}
+use Rattle.std.proofs.Common.{◌≡◌, ℕ, suc, ◌+◌, ◌-◌, ◌≤◌, List, [], ◌∷◌, ◌++◌, length, map, Bool, true, false, Option, Some, None}
+use Rattle.std.proofs.Common.{refl, sym, ap, subst, ◌∙◌, inl, arith, append_assoc, append-nil}
+use Rattle.std.specs.Prelude.{◌||◌, ◌==◌, not, is_some}
+use Rattle.std.specs.List.{flat_map}
 use Rattle.std.proofs.lemmas.Bool.Decides.{nat_tests}
 use Rattle.spec_data.specs.Lists.{look_up, is_among, are_different}
-use Rattle.spec_data.specs.Messages.{noted_all, collision}
+use Rattle.spec_data.specs.Messages.{collision}
 use Rattle.spec_data.specs.Ranges.{least_secret_bytes, most_secret_length, last_height}
 use Rattle.spec_terms.specs.Precondition.{Holding, deposits, names_of}
-use Rattle.spec_calculus.specs.declared.step.Owner.{Owner}
 use Rattle.spec_calculus.specs.declared.step.Owner.TheVariants as owners
 use Rattle.spec_calculus.specs.declared.step.Step.{Step}
 use Rattle.spec_calculus.specs.declared.parts.Deposit.{Deposit as LiveDeposit}
-use Rattle.spec_calculus.specs.declared.parts.ActiveContract.{ActiveContract}
 use Rattle.spec_calculus.specs.Configuration.{Configuration}
 use Rattle.spec_calculus.specs.Moves.{made}
-use Rattle.spec_calculus.specs.Steps.{after_steps, Legal, IsLegalRun, owned}
+use Rattle.spec_calculus.specs.Steps.{after_steps, Legal, owned}
 use Rattle.spec_bitcoin.specs.Live.{same_outpoint}
 use Rattle.spec_bitcoin.specs.Spelling.{IsTransaction}
-use Rattle.spec_compiler.specs.Keyed.Instance.{Instance, people}
+use Rattle.spec_compiler.specs.Keyed.Instance.{Instance}
 use Rattle.spec_compiler.specs.Keyed.Keys.{Keys}
 use Rattle.spec_compiler.specs.Keyed.Transactions.{outpoint_or_none}
 use Rattle.spec_deal.specs.declared.transaction.Transaction.{Transaction}
@@ -26,7 +24,6 @@ use Rattle.spec_deal.specs.Transactions.{transactions}
 use Rattle.theory_calculus.specs.Members.{Is_in}
 use Rattle.theory_calculus.proofs.Funded.{IsFine}
 use Rattle.theory_calculus.proofs.Names.{in_looked, in_named, deposits_different, different_names}
-use Rattle.theory_calculus.proofs.Runs.{runs_are_one}
 use Rattle.theory_script.proofs.Keyed.Stands.{some_same}
 use Rattle.theory_world.proofs.Same.{place_refl}
 use Rattle.theory_run.proofs.Steps.Legal.{legal_append, after-append}
@@ -35,17 +32,17 @@ use Rattle.spec_chain.specs.declared.output.Held.{Held}
 use Rattle.spec_chain.specs.declared.output.Output.{Output}
 use Rattle.spec_chain.specs.declared.reading.Confirmed.{Confirmed}
 use Rattle.spec_chain.specs.Chain.{Course, transaction_strings, if_matters, gone_on, opening_course}
-use Rattle.spec_chain.specs.Following.{State, own_transaction, strings_shown, outputs_made, places_spent, which_of, which_shown, steps_of, happened, matters}
+use Rattle.spec_chain.specs.Following.{own_transaction, strings_shown, outputs_made, places_spent, which_of, which_shown, steps_of, happened, matters}
 use Rattle.spec_chain.specs.Outputs.{deposits_from, deposit_outputs}
 use Rattle.spec_chain.specs.Refusals.{refusal}
 use Rattle.std.specs.Option.{option_map}
-use Rattle.theory_chain.specs.ChainSteps.{numbered, deal_opening, agreed_steps, pass_to, passed_to, steps_from, chain_run, AreLengths, taken_by, left_from, paid_deposit, active_contract}
+use Rattle.theory_chain.specs.ChainSteps.{numbered, deal_opening, agreed_steps, pass_to, passed_to, steps_from, chain_run, taken_by, left_from, active_contract}
 use Rattle.theory_chain.specs.Follows.{LeadsTo}
 use Rattle.theory_chain.proofs.Deals.Outputs.{numbered_in, bound_number, deposit_output, deposit_of}
 use Rattle.theory_chain.proofs.Deals.Own.{Own, begins, takes, is_own}
 use Rattle.theory_chain.proofs.Deals.Transactions.{IsHeld}
 use Rattle.theory_chain.proofs.Deals.Whole.{Whole}
-use Rattle.theory_chain.proofs.Runs.Agreed.{fine_along, at_time, passes_to, passed, agreed, agreed_legal, agreed_fine}
+use Rattle.theory_chain.proofs.Runs.Agreed.{fine_along, passes_to, passed, agreed, agreed_legal, agreed_fine}
 use Rattle.theory_chain.proofs.Runs.Going as going
 use Rattle.theory_chain.proofs.Runs.Gone.{Gone, gone_later}
 use Rattle.theory_chain.proofs.Runs.Kept.{Kept, Adds}

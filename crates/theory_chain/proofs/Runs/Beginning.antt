@@ -1,47 +1,44 @@
 -- The steps of the initial transaction are legal, and the configuration tracks the chain after them.
-use Rattle.std.proofs.Common.{◌≡◌, ℕ, zero, suc, ◌+◌, ◌-◌, ◌<◌, ◌≤◌, List, [], ◌∷◌, ◌++◌, length, map, Bool, true, false, Option, Some, None}
-use Rattle.std.proofs.Common.{refl, sym, ap, subst, ◌∙◌, inl, inr, cond, arith, append_assoc, append-nil}
-use Rattle.std.specs.Prelude.{◌⊎◌, ◌||◌, ◌&&◌, ◌==◌, not, is_some}
-use Rattle.std.specs.List.{list_any, list_all, filter, find, flat_map}
+use Rattle.std.proofs.Common.{◌≡◌, ℕ, ◌+◌, ◌-◌, ◌≤◌, List, [], ◌∷◌, ◌++◌, map, true, Option, Some}
+use Rattle.std.proofs.Common.{refl, sym, ap, subst, ◌∙◌, inl, inr, append-nil}
+use Rattle.std.specs.Prelude.{◌&&◌, ◌==◌}
+use Rattle.std.specs.List.{list_all, filter, flat_map}
 use Rattle.std.specs.Str.{bytes_eq}
-use Rattle.std.proofs.lemmas.Bool.{and_parts, and_from, both_ways}
-use Rattle.spec_data.specs.Lists.{AllTrue, look_up, is_among, has_number, are_different}
+use Rattle.std.proofs.lemmas.Bool.{and_from}
+use Rattle.spec_data.specs.Lists.{AllTrue, look_up, is_among}
 use Rattle.spec_data.specs.Ranges.{most_secret_length}
 use Rattle.spec_terms.specs.Advert.{Advert}
 use Rattle.spec_terms.specs.Parties.{participants}
-use Rattle.spec_terms.specs.Precondition.{Holding, deposits, persistent, names_of, total_of}
+use Rattle.spec_terms.specs.Precondition.{Holding, persistent, names_of, total_of}
 use Rattle.spec_terms.specs.declared.path.PathStep.{PathStep}
-use Rattle.spec_calculus.specs.declared.step.Owner.TheVariants as owners
 use Rattle.spec_calculus.specs.declared.step.Step.{Step}
 use Rattle.spec_calculus.specs.declared.step.Step.TheVariants as steps
 use Rattle.spec_calculus.specs.declared.parts.Deposit.{Deposit as LiveDeposit}
-use Rattle.spec_calculus.specs.declared.parts.ActiveContract.{ActiveContract}
 use Rattle.spec_calculus.specs.declared.parts.Advertised.{Advertised}
 use Rattle.spec_calculus.specs.declared.parts.Committed.{Committed}
 use Rattle.spec_calculus.specs.declared.parts.InitAuthorisation.{InitAuthorisation}
-use Rattle.spec_calculus.specs.Beginning.{contract_at, pre_of, bindings_of, has_committed, have_committed, is_there as is_bound_there, are_there, numbers_of, persistent_names, has_persistent, is_own, is_init_authorised, are_init_authorised}
+use Rattle.spec_calculus.specs.Beginning.{contract_at, pre_of, bindings_of, has_committed, have_committed, is_there as is_bound_there, are_there, numbers_of, persistent_names, is_own, is_init_authorised}
 use Rattle.spec_calculus.specs.Branches.{gone, total_value}
 use Rattle.spec_calculus.specs.Configuration.{Configuration}
 use Rattle.spec_calculus.specs.Moves.{kept}
-use Rattle.spec_calculus.specs.Steps.{is_committed, with_init, begun, effect, after_steps, Legal, auth_init_premises, init_premises}
+use Rattle.spec_calculus.specs.Steps.{with_init, begun, effect, after_steps, Legal, auth_init_premises, init_premises}
 use Rattle.spec_bitcoin.specs.declared.tx.OutPoint.{OutPoint}
 use Rattle.spec_bitcoin.specs.Digests.{txid}
 use Rattle.spec_compiler.specs.declared.unsigned.Spent.{Spent}
 use Rattle.spec_compiler.specs.Keyed.Instance.{Instance, people}
 use Rattle.spec_compiler.specs.Keyed.Keys.{Keys}
-use Rattle.spec_compiler.specs.Keyed.Transactions.{tx_of, initial_unsigned, root_value, deposit, persistent_deposits}
+use Rattle.spec_compiler.specs.Keyed.Transactions.{tx_of, initial_unsigned, root_value, deposit}
 use Rattle.spec_run.specs.Steps.{auth_inits}
 use Rattle.spec_tool.specs.declared.which.Which.TheVariants as names
 use Rattle.spec_deal.specs.Needed.{deal_contract}
 use Rattle.theory_calculus.specs.Members.{Is_in}
 use Rattle.theory_calculus.proofs.Funded.{IsFine}
-use Rattle.theory_calculus.proofs.Names.{bytes-true, bytes_refl, looked_in, in_looked, in_named, named_looked, all_among, persistent_deposit, persistent_different, different_names}
+use Rattle.theory_calculus.proofs.Names.{bytes_refl, looked_in, in_looked, in_named, named_looked, all_among, persistent_deposit, persistent_different, different_names}
 use Rattle.theory_calculus.proofs.Standing.{init_gone}
-use Rattle.theory_world.proofs.Hashed.{among_head, among_tail}
 use Rattle.theory_world.proofs.Same.{place-true}
 use Rattle.theory_world.proofs.Staying.{init_new}
 use Rattle.theory_world.proofs.Tests.{any_map}
-use Rattle.theory_run.proofs.Steps.Beginnings.{init_all, after-inits, init_all_more, inits_cover, InitOk, legal_inits}
+use Rattle.theory_run.proofs.Steps.Beginnings.{init_all, after-inits, init_all_more, InitOk, legal_inits}
 use Rattle.theory_run.proofs.Steps.CommitSteps.{every}
 use Rattle.theory_run.proofs.Steps.Legal.{passes, after-append, legal_append}
 use Rattle.spec_chain.specs.declared.happened.Happened.{Happened}
@@ -49,13 +46,12 @@ use Rattle.spec_chain.specs.declared.output.Held.{Held}
 use Rattle.spec_chain.specs.declared.output.Held.TheVariants as helds
 use Rattle.spec_chain.specs.declared.output.Output.{Output}
 use Rattle.spec_chain.specs.Chain.{Course}
-use Rattle.spec_chain.specs.Following.{State, begin_steps}
-use Rattle.spec_chain.specs.Outputs.{is_position, is_there, has_place, without_all, made_from}
-use Rattle.theory_chain.specs.ChainSteps.{deal_bindings, taken_by, paid_deposit, deposits_shown, contracts_shown, active_contract, revealed_secret}
+use Rattle.spec_chain.specs.Following.{begin_steps}
+use Rattle.spec_chain.specs.Outputs.{is_position, is_there, has_place, without_all}
+use Rattle.theory_chain.specs.ChainSteps.{deal_bindings, taken_by, paid_deposit, active_contract, revealed_secret}
 use Rattle.theory_chain.proofs.Deals.Whole.{Whole, from_map, in_map}
-use Rattle.theory_chain.proofs.Deals.Positions.{among_is}
 use Rattle.theory_chain.proofs.Deals.Outputs.{there_of}
-use Rattle.theory_chain.proofs.Runs.Agreed.{fine_along, advertised_deal, committed_by}
+use Rattle.theory_chain.proofs.Runs.Agreed.{fine_along, committed_by}
 use Rattle.theory_chain.proofs.Runs.Kept.{Kept}
 use Rattle.theory_chain.proofs.Runs.Left.{flat_append, lies_at, contracts_stay, deposits_after}
 use Rattle.theory_chain.proofs.Runs.Tracking.{Tracks, Counts, numbers_are, numbers_later, deposits_left, position_apart}

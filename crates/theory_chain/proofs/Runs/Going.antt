@@ -1,16 +1,15 @@
 -- One transaction more of a chain: what is kept stays so, and its steps are legal and lead to what the chain shows then.
-use Rattle.std.proofs.Common.{◌≡◌, ℕ, zero, suc, ◌+◌, ◌-◌, ◌<◌, ◌≤◌, List, [], ◌∷◌, ◌++◌, length, map, Bool, true, false, Option, Some, None}
-use Rattle.std.proofs.Common.{refl, sym, ap, subst, ◌∙◌, inl, inr, cond, arith, append_assoc, append-nil, length-append}
-use Rattle.std.specs.Prelude.{◌⊎◌, ◌||◌, ◌&&◌, ◌==◌, not, is_some, nat_le, slice_get}
-use Rattle.std.specs.List.{list_any, list_all, filter, find, flat_map}
+use Rattle.std.proofs.Common.{◌≡◌, ℕ, ◌+◌, ◌-◌, ◌<◌, ◌≤◌, List, [], ◌∷◌, ◌++◌, length, map, Bool, true, false, Option, Some, None}
+use Rattle.std.proofs.Common.{refl, sym, ap, subst, ◌∙◌, inl, inr, arith, append-nil}
+use Rattle.std.specs.Prelude.{◌⊎◌, ◌||◌, ◌&&◌, ◌==◌, not, is_some, nat_le}
+use Rattle.std.specs.List.{list_all, filter, flat_map}
 use Rattle.std.specs.Option.{option_map}
 use Rattle.std.specs.Str.{bytes_eq}
-use Rattle.std.proofs.lemmas.Bool.{and_parts, and_from, both_ways}
+use Rattle.std.proofs.lemmas.Bool.{and_parts, both_ways}
 use Rattle.std.proofs.lemmas.Bool.Decides.{nat_tests}
 use Rattle.spec_data.specs.Lists.{look_up, is_among, or_else}
 use Rattle.spec_data.specs.Messages.{noted_all, collision}
-use Rattle.spec_data.specs.Ranges.{least_secret_bytes, most_secret_length, last_height}
-use Rattle.spec_terms.specs.Term as term
+use Rattle.spec_data.specs.Ranges.{least_secret_bytes, most_secret_length}
 use Rattle.spec_terms.specs.Core.{core, lock, puts_of, reveals_of, test_of}
 use Rattle.spec_terms.specs.Paths.{at}
 use Rattle.spec_terms.specs.Precondition.{Holding, deposits, secrets, names_of, persistent, volatile}
@@ -18,13 +17,10 @@ use Rattle.spec_terms.specs.Value.{holds}
 use Rattle.spec_terms.specs.declared.path.PathStep.{PathStep}
 use Rattle.spec_calculus.specs.declared.step.Step.{Step}
 use Rattle.spec_calculus.specs.declared.parts.Committed.{Committed}
-use Rattle.spec_calculus.specs.declared.parts.Revealed.{Revealed}
-use Rattle.spec_calculus.specs.Branches.{are_revealed, is_revealed_by, secret_length, secret_lengths as config_lengths, length_by, known_length, length_at}
+use Rattle.spec_calculus.specs.Branches.{is_revealed_by, secret_length, secret_lengths as config_lengths, length_by, known_length, length_at}
 use Rattle.spec_calculus.specs.Configuration.{Configuration}
 use Rattle.spec_calculus.specs.Steps.{after_steps, Legal}
 use Rattle.spec_bitcoin.specs.declared.tx.OutPoint.{OutPoint}
-use Rattle.spec_bitcoin.specs.declared.tx.Tx.{Tx}
-use Rattle.spec_bitcoin.specs.declared.tx.TxIn.{TxIn}
 use Rattle.spec_bitcoin.specs.Digests.{txid, txid_strings}
 use Rattle.spec_bitcoin.specs.Live.{same_outpoint}
 use Rattle.spec_bitcoin.specs.Spelling.{IsTransaction}
@@ -32,23 +28,22 @@ use Rattle.spec_compiler.specs.declared.unsigned.Spent.{Spent}
 use Rattle.spec_compiler.specs.declared.unsigned.Unsigned.{Unsigned}
 use Rattle.spec_compiler.specs.Scripts.{digest_of}
 use Rattle.spec_compiler.specs.Witness.{chosen_by}
-use Rattle.spec_compiler.specs.Keyed.Instance.{Instance, people, branch_path}
+use Rattle.spec_compiler.specs.Keyed.Instance.{Instance, branch_path}
 use Rattle.spec_compiler.specs.Keyed.Keys.{Keys}
-use Rattle.spec_compiler.specs.Keyed.Statements.{secret_lengths}
-use Rattle.spec_compiler.specs.Keyed.Transactions.{tx_of, initial_unsigned, outpoint_or_none, deposit, holding_or_none, branch_unsigned, core_outputs}
+use Rattle.spec_compiler.specs.Keyed.Transactions.{tx_of, initial_unsigned, outpoint_or_none, deposit, holding_or_none, core_outputs}
 use Rattle.spec_run.specs.Ledger.{first_witness}
 use Rattle.spec_tool.specs.declared.which.Which.{Which}
 use Rattle.spec_tool.specs.declared.which.Which.TheVariants as names
-use Rattle.spec_tool.specs.Keyed.Listed.{Listed, initial_listed, path_listed, listed, listed_at}
+use Rattle.spec_tool.specs.Keyed.Listed.{Listed, initial_listed, path_listed, listed_at}
 use Rattle.spec_deal.specs.declared.transaction.Transaction.{Transaction}
 use Rattle.spec_deal.specs.Finished.{bytes_or_none, choices_at}
 use Rattle.spec_deal.specs.Needed.{deal_contract}
 use Rattle.spec_deal.specs.SecretFile.{has_length}
-use Rattle.spec_deal.specs.Transactions.{transaction, transactions}
+use Rattle.spec_deal.specs.Transactions.{transactions}
 use Rattle.theory_calculus.specs.Members.{Is_in}
 use Rattle.theory_calculus.proofs.Funded.{IsFine}
-use Rattle.theory_calculus.proofs.Members.{in_left, in_right, in_append, in_filter, found, all_in}
-use Rattle.theory_calculus.proofs.Names.{bytes-true, looked_in, named_looked, in_named, all_among, persistent_deposit}
+use Rattle.theory_calculus.proofs.Members.{in_append, in_filter, found}
+use Rattle.theory_calculus.proofs.Names.{bytes-true, looked_in, named_looked, in_named, all_among}
 use Rattle.theory_script.proofs.Checked.{reveals_known}
 use Rattle.theory_script.proofs.Keyed.Stands.{some_same, position_stands}
 use Rattle.theory_world.specs.KeptApart.{NoCollision}
@@ -63,24 +58,24 @@ use Rattle.spec_chain.specs.declared.output.Held.TheVariants as helds
 use Rattle.spec_chain.specs.declared.output.Output.{Output}
 use Rattle.spec_chain.specs.declared.reading.Confirmed.{Confirmed}
 use Rattle.spec_chain.specs.Chain.{Course, transaction_strings, if_matters, gone_on}
-use Rattle.spec_chain.specs.Following.{State, own_transaction, which_of, which_shown, items_in, is_string_of, string_shown, is_newly_shown, newly_shown, strings_shown, outputs_made, outputs_named, outputs_of, places_spent, after_transaction, which_steps, steps_of, reveal_steps, begin_steps, branch_steps, first_spent, selected, happened, matters}
+use Rattle.spec_chain.specs.Following.{own_transaction, which_of, which_shown, items_in, is_string_of, string_shown, is_newly_shown, newly_shown, strings_shown, outputs_made, outputs_named, outputs_of, places_spent, which_steps, steps_of, reveal_steps, begin_steps, branch_steps, happened, matters}
 use Rattle.spec_chain.specs.Outputs.{is_position, is_there, has_place, without_all, deposit_outputs, made_from, branch_held, position_outputs, position_of}
-use Rattle.spec_chain.specs.Outstanding.{deposits_needed, puts_by}
-use Rattle.spec_chain.specs.Refusals.{opens, inputs_reason, input_row, refusal}
-use Rattle.theory_chain.specs.ChainSteps.{deal_bindings, taken_by, is_taken, deposits_shown, contracts_shown, active_contract, secrets_revealed, revealed_secret, left_from, paid_deposit, AreLengths}
+use Rattle.spec_chain.specs.Outstanding.{puts_by}
+use Rattle.spec_chain.specs.Refusals.{opens, inputs_reason, refusal}
+use Rattle.theory_chain.specs.ChainSteps.{taken_by, is_taken, active_contract, revealed_secret, left_from, paid_deposit}
 use Rattle.theory_chain.proofs.Needs.{named_is}
 use Rattle.theory_chain.proofs.Deals.Whole.{Whole, from_map, in_map, among_in}
 use Rattle.theory_chain.proofs.Deals.Positions.{branch_at_path, path_named, among_is, compiled_at}
 use Rattle.theory_chain.proofs.Deals.Outputs.{deposit_of, there_of, position_placed}
-use Rattle.theory_chain.proofs.Deals.Own.{foreign_apart, Own, begins, takes, Begins, Takes, AllLive, same_prevs, is_own}
-use Rattle.theory_chain.proofs.Deals.Transactions.{OfBranch, IsHeld, position_before}
-use Rattle.theory_chain.proofs.Runs.Agreed.{fine_along, committed_by, committed_length}
+use Rattle.theory_chain.proofs.Deals.Own.{foreign_apart, Begins, Takes, same_prevs}
+use Rattle.theory_chain.proofs.Deals.Transactions.{IsHeld, position_before}
+use Rattle.theory_chain.proofs.Runs.Agreed.{fine_along, committed_length}
 use Rattle.theory_chain.proofs.Runs.Beginning as beginning
-use Rattle.theory_chain.proofs.Runs.Kept.{IsShown, Came, Kept, Adds, adds_none, own_adds, unspent, made_later, live_later, once_later, false_of, none_of}
+use Rattle.theory_chain.proofs.Runs.Kept.{IsShown, Kept, Adds, adds_none, own_adds, unspent, made_later, live_later, once_later, false_of}
 use Rattle.theory_chain.proofs.Runs.Left.{lies_at, contracts_stay, flat_append}
-use Rattle.theory_chain.proofs.Runs.Shown.{ShowsAll, shows_all, each_shown, look_append}
+use Rattle.theory_chain.proofs.Runs.Shown.{shows_all, each_shown, look_append}
 use Rattle.theory_chain.proofs.Runs.Taking as taking
-use Rattle.theory_chain.proofs.Runs.Tracking.{Tracks, Counts, first_revealed, revealed_there, secret_party, looked_secret}
+use Rattle.theory_chain.proofs.Runs.Tracking.{Tracks, Counts, first_revealed, revealed_there, secret_party}
 
 module _ (hash : List ℕ → List ℕ) (keys : Keys) (s : Instance) (whole : Whole hash keys s) where
   abbrev ts : List Transaction

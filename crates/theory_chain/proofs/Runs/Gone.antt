@@ -1,26 +1,23 @@
 -- What is gone was live, was never taken, and is never live again.
-use Rattle.std.proofs.Common.{◌≡◌, ℕ, zero, suc, ◌+◌, ◌<◌, ◌≤◌, List, [], ◌∷◌, ◌++◌, length, map, Bool, true, false, Option, Some, None}
-use Rattle.std.proofs.Common.{refl, sym, ap, subst, ◌∙◌, inl, inr, cond, arith, append_assoc, append-nil}
-use Rattle.std.specs.Prelude.{◌⊎◌, ◌||◌, ◌&&◌, ◌==◌, not, is_some}
-use Rattle.std.specs.List.{list_any, list_all, filter, find, flat_map}
-use Rattle.std.specs.Str.{bytes_eq}
+use Rattle.std.proofs.Common.{◌≡◌, ℕ, ◌+◌, ◌≤◌, List, [], ◌∷◌, ◌++◌, map, Bool, true, false, Option, Some, None}
+use Rattle.std.proofs.Common.{refl, sym, ap, subst, ◌∙◌, inl, inr, append-nil}
+use Rattle.std.specs.Prelude.{◌⊎◌, ◌||◌, not, is_some}
+use Rattle.std.specs.List.{filter, flat_map}
 use Rattle.std.proofs.lemmas.Bool.{and_parts, and_from, both_ways, not-true}
 use Rattle.spec_data.specs.Lists.{look_up, is_among, are_different, or_else, first_reason}
 use Rattle.spec_data.specs.Ranges.{most_secret_length}
-use Rattle.spec_terms.specs.Precondition.{Holding, deposits, names_of}
+use Rattle.spec_terms.specs.Precondition.{Holding, deposits}
 use Rattle.spec_bitcoin.specs.declared.tx.OutPoint.{OutPoint}
-use Rattle.spec_bitcoin.specs.declared.tx.Tx.{Tx}
 use Rattle.spec_bitcoin.specs.declared.tx.TxIn.{TxIn}
 use Rattle.spec_bitcoin.specs.Live.{same_outpoint}
 use Rattle.spec_compiler.specs.Keyed.Instance.{Instance}
 use Rattle.spec_compiler.specs.Keyed.Keys.{Keys}
 use Rattle.spec_compiler.specs.Keyed.Transactions.{outpoint_or_none}
 use Rattle.spec_tool.specs.declared.which.Which.{Which}
-use Rattle.spec_deal.specs.declared.transaction.Transaction.{Transaction}
 use Rattle.spec_deal.specs.Transactions.{transactions}
 use Rattle.theory_calculus.specs.Members.{Is_in}
-use Rattle.theory_calculus.proofs.Members.{in_left, in_right, in_append, in_filter, found}
-use Rattle.theory_calculus.proofs.Names.{bytes-true, bytes_refl, among-append}
+use Rattle.theory_calculus.proofs.Members.{in_append, in_filter, found}
+use Rattle.theory_calculus.proofs.Names.{among-append}
 use Rattle.theory_world.proofs.Same.{place-true, place_refl}
 use Rattle.theory_world.proofs.Tests.{any-append}
 use Rattle.spec_chain.specs.declared.happened.Happened.{Happened}
@@ -29,12 +26,12 @@ use Rattle.spec_chain.specs.declared.output.Held.TheVariants as helds
 use Rattle.spec_chain.specs.declared.output.Output.{Output}
 use Rattle.spec_chain.specs.declared.reading.Confirmed.{Confirmed}
 use Rattle.spec_chain.specs.Chain.{Course, if_matters, gone_on}
-use Rattle.spec_chain.specs.Following.{State, own_transaction, which_of, outputs_made, places_spent, deposit_name, deposits_spent, gone_by, happened, matters}
+use Rattle.spec_chain.specs.Following.{own_transaction, which_of, outputs_made, places_spent, deposit_name, deposits_spent, gone_by, happened, matters}
 use Rattle.spec_chain.specs.Outputs.{is_position, is_there, has_place, without, without_all, output_there, deposit_outputs, deal_outputs}
 use Rattle.spec_chain.specs.Refusals.{input_row, inputs_reason, refusal}
 use Rattle.theory_chain.specs.ChainSteps.{taken_by, is_taken}
-use Rattle.theory_chain.proofs.Deals.Whole.{Whole, among_in}
-use Rattle.theory_chain.proofs.Deals.Outputs.{HasNumber, numbered_in, deposit_of, deposit_ours, any_there, at_place}
+use Rattle.theory_chain.proofs.Deals.Whole.{Whole}
+use Rattle.theory_chain.proofs.Deals.Outputs.{HasNumber, numbered_in, deposit_of, deposit_ours, at_place}
 use Rattle.theory_chain.proofs.Deals.Own.{spent_live}
 use Rattle.theory_chain.proofs.Deals.Positions.{among_is}
 use Rattle.theory_chain.proofs.Runs.Kept.{Kept, unspent, none_any, false_of}

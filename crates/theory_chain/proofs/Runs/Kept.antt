@@ -1,20 +1,18 @@
 -- What a chain keeps: its strings don't collide, what was shown fits, live outputs are told by their places, and no transaction of the deal
 -- comes twice.
-use Rattle.std.proofs.Common.{◌≡◌, ℕ, zero, suc, ◌+◌, ◌<◌, ◌≤◌, List, [], ◌∷◌, ◌++◌, length, map, Bool, true, false, Option, Some, None}
-use Rattle.std.proofs.Common.{refl, sym, ap, subst, ◌∙◌, inl, inr, cond, arith}
-use Rattle.std.specs.Prelude.{◌⊎◌, ◌||◌, ◌&&◌, not, is_some, slice_get}
-use Rattle.std.specs.List.{list_any, filter, find, flat_map}
-use Rattle.std.specs.Str.{bytes_eq}
-use Rattle.std.proofs.lemmas.Bool.{and_parts, both_ways}
+use Rattle.std.proofs.Common.{◌≡◌, ℕ, ◌+◌, ◌<◌, ◌≤◌, List, [], ◌∷◌, ◌++◌, length, map, Bool, true, false, Option, Some, None}
+use Rattle.std.proofs.Common.{refl, sym, ap, subst, ◌∙◌, inl, inr, arith}
+use Rattle.std.specs.Prelude.{◌⊎◌, ◌||◌, not, slice_get}
+use Rattle.std.specs.List.{list_any, filter}
+use Rattle.std.proofs.lemmas.Bool.{both_ways}
 use Rattle.spec_data.specs.Lists.{look_up, is_among}
-use Rattle.spec_data.specs.Messages.{noted_all, collision}
-use Rattle.spec_terms.specs.Precondition.{Holding, deposits, secrets, names_of}
+use Rattle.spec_data.specs.Messages.{noted_all}
+use Rattle.spec_terms.specs.Precondition.{deposits, secrets, names_of}
 use Rattle.spec_bitcoin.specs.declared.tx.OutPoint.{OutPoint}
 use Rattle.spec_bitcoin.specs.declared.tx.Tx.{Tx}
 use Rattle.spec_bitcoin.specs.declared.tx.TxIn.{TxIn}
-use Rattle.spec_bitcoin.specs.Digests.{txid, txid_strings}
+use Rattle.spec_bitcoin.specs.Digests.{txid}
 use Rattle.spec_compiler.specs.declared.unsigned.Spent.{Spent}
-use Rattle.spec_compiler.specs.declared.unsigned.Unsigned.{Unsigned}
 use Rattle.spec_compiler.specs.Scripts.{digest_of}
 use Rattle.spec_compiler.specs.Keyed.Instance.{Instance}
 use Rattle.spec_compiler.specs.Keyed.Keys.{Keys}
@@ -22,32 +20,27 @@ use Rattle.spec_compiler.specs.Keyed.Transactions.{tx_of, input_of, outpoint_or_
 use Rattle.spec_tool.specs.declared.which.Which.{Which}
 use Rattle.spec_tool.specs.Keyed.Listed.{Listed, listed, listed_at}
 use Rattle.spec_deal.specs.declared.transaction.Transaction.{Transaction}
-use Rattle.spec_deal.specs.Finished.{bytes_or_none}
 use Rattle.spec_deal.specs.Hashed.{deal_strings}
 use Rattle.spec_deal.specs.SecretFile.{has_length}
 use Rattle.spec_deal.specs.Transactions.{transaction, transactions}
 use Rattle.theory_bitcoin.specs.Apart.{bare}
 use Rattle.theory_calculus.specs.Members.{Is_in}
-use Rattle.theory_calculus.proofs.Members.{in_left, in_right, in_append, in_filter, found}
-use Rattle.theory_calculus.proofs.Names.{bytes-true, looked_in, in_named, named_looked}
+use Rattle.theory_calculus.proofs.Members.{in_left, in_right, in_append, in_filter}
+use Rattle.theory_calculus.proofs.Names.{looked_in, in_named, named_looked}
 use Rattle.theory_script.proofs.Keyed.Stands.{some_same}
 use Rattle.theory_world.specs.KeptApart.{NoCollision}
-use Rattle.theory_world.proofs.Hashed.{all_more, all_new, among_right, no_collision}
-use Rattle.theory_world.proofs.Same.{place-true, place_refl}
+use Rattle.theory_world.proofs.Same.{place-true}
 use Rattle.theory_deal.proofs.ByName.{listed_in}
 use Rattle.theory_deal.proofs.Ledger.Funded.{funded_at}
-use Rattle.theory_deal.proofs.Ledger.Made.{IsMade, no_deposit_made}
-use Rattle.spec_chain.specs.declared.output.Held.{Held}
-use Rattle.spec_chain.specs.declared.output.Held.TheVariants.{Deposit, Position, Payout}
+use Rattle.theory_deal.proofs.Ledger.Made.{no_deposit_made}
 use Rattle.spec_chain.specs.declared.output.Output.{Output}
-use Rattle.spec_chain.specs.declared.reading.Confirmed.{Confirmed}
-use Rattle.spec_chain.specs.Chain.{Course, transaction_strings, gone_on, opening_course}
-use Rattle.spec_chain.specs.Following.{State, which_of, items_in, is_string_of, string_shown, is_newly_shown, newly_shown, strings_shown, outputs_made, outputs_named, outputs_of, places_spent, after_transaction}
+use Rattle.spec_chain.specs.Chain.{Course}
+use Rattle.spec_chain.specs.Following.{State, which_of, outputs_made, outputs_named, outputs_of, places_spent}
 use Rattle.spec_chain.specs.Outputs.{is_position, is_there, has_place, without, without_all, deposit_outputs, made_by, held_by}
 use Rattle.theory_chain.proofs.Needs.{named_is}
-use Rattle.theory_chain.proofs.Deals.Whole.{Whole, in_map, among_in, same_txid}
+use Rattle.theory_chain.proofs.Deals.Whole.{Whole, same_txid}
 use Rattle.theory_chain.proofs.Deals.Transactions.{IsHeld, output_is}
-use Rattle.theory_chain.proofs.Deals.Outputs.{any_there, placed, at_place, numbered_in, deposit_of, made_output, made_of}
+use Rattle.theory_chain.proofs.Deals.Outputs.{any_there, at_place, numbered_in, deposit_of, made_output, made_of}
 use Rattle.theory_chain.proofs.Deals.Own.{AllLive, same_prevs}
 
 -- ---- lists

@@ -1,26 +1,23 @@
 -- What is gone of the deposits was never taken, and may move outside.
-use Rattle.std.proofs.Common.{◌≡◌, ℕ, zero, suc, ◌+◌, ◌<◌, ◌≤◌, List, [], ◌∷◌, ◌++◌, length, map, Bool, true, false, Option, Some, None}
-use Rattle.std.proofs.Common.{refl, sym, ap, subst, ◌∙◌, inl, inr, cond, arith, append_assoc, append-nil}
-use Rattle.std.specs.Prelude.{◌⊎◌, ◌||◌, ◌&&◌, ◌==◌, not, is_some, nat_le, sum_by}
-use Rattle.std.specs.List.{list_any, list_all, filter, find, flat_map}
-use Rattle.std.specs.Str.{bytes_eq}
+use Rattle.std.proofs.Common.{◌≡◌, ℕ, List, [], ◌∷◌, ◌++◌, Bool, true, false, Some}
+use Rattle.std.proofs.Common.{refl, sym, ap, subst, ◌∙◌, inl, inr, cond, arith}
+use Rattle.std.specs.Prelude.{◌||◌, ◌==◌, not, is_some, nat_le, sum_by}
+use Rattle.std.specs.List.{flat_map}
 use Rattle.std.proofs.lemmas.Bool.{and_parts, and_from, both_ways, eq-eqb, ne_eqb, eqb-true, not-true, or_left}
 use Rattle.std.proofs.lemmas.Bool.Decides.{nat_tests}
-use Rattle.spec_data.specs.Lists.{look_up, is_among, are_different, has_number}
-use Rattle.spec_terms.specs.Precondition.{Holding, deposits, names_of}
+use Rattle.spec_data.specs.Lists.{look_up, is_among, are_different}
+use Rattle.spec_terms.specs.Precondition.{Holding}
 use Rattle.spec_calculus.specs.declared.step.Owner.{Owner}
 use Rattle.spec_calculus.specs.declared.step.Owner.TheVariants as owners
 use Rattle.spec_calculus.specs.declared.step.Move.{Move}
 use Rattle.spec_calculus.specs.declared.step.Step.{Step}
 use Rattle.spec_calculus.specs.declared.step.Step.TheVariants as steps
 use Rattle.spec_calculus.specs.declared.parts.Deposit.{Deposit as LiveDeposit}
-use Rattle.spec_calculus.specs.declared.parts.MoveAuthorisation.{MoveAuthorisation}
 use Rattle.spec_calculus.specs.Configuration.{Configuration}
-use Rattle.spec_calculus.specs.Moves.{deposit_at, owner_at, value_at, owner_of, value_or_zero, is_live, kept, made, spends_live, has_agreed, with_authorisation, value_in, value_out}
+use Rattle.spec_calculus.specs.Moves.{deposit_at, owner_at, value_at, owner_of, value_or_zero, kept, made, spends_live, has_agreed, with_authorisation, value_in, value_out}
 use Rattle.spec_calculus.specs.Same.{owner_eq}
-use Rattle.spec_calculus.specs.Steps.{effect, after_steps, Legal, auth_move_premises, move_premises}
+use Rattle.spec_calculus.specs.Steps.{effect, Legal, auth_move_premises, move_premises}
 use Rattle.theory_calculus.specs.Members.{Is_in}
-use Rattle.theory_calculus.proofs.Names.{bytes-true, bytes_refl}
 use Rattle.theory_world.proofs.Hashed.{among_head}
 use Rattle.theory_run.proofs.Steps.Legal.{passes, owner_refl, all_there}
 use Rattle.spec_data.specs.Lists.{AllTrue}

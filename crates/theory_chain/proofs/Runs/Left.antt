@@ -1,27 +1,26 @@
 -- What a transaction of the deal leaves: the deposits that it doesn't take, and the contracts that it doesn't spend.
-use Rattle.std.proofs.Common.{◌≡◌, ℕ, zero, suc, ◌+◌, ◌<◌, ◌≤◌, List, [], ◌∷◌, ◌++◌, length, map, Bool, true, false, Option, Some, None}
-use Rattle.std.proofs.Common.{refl, sym, ap, subst, ◌∙◌, inl, inr, cond, arith, append_assoc, append-nil}
-use Rattle.std.specs.Prelude.{◌⊎◌, ◌||◌, ◌&&◌, ◌==◌, not, is_some, nat_lt}
+use Rattle.std.proofs.Common.{◌≡◌, ℕ, ◌+◌, ◌<◌, List, [], ◌∷◌, ◌++◌, length, map, Bool, true, false, Option, Some, None}
+use Rattle.std.proofs.Common.{refl, sym, ap, subst, ◌∙◌, inl, inr, cond, arith, append_assoc}
+use Rattle.std.specs.Prelude.{◌||◌, ◌&&◌, ◌==◌, not, nat_lt}
 use Rattle.std.proofs.lemmas.Bool.Decides.{nat_tests}
 use Rattle.std.specs.List.{list_any, list_all, filter, find, flat_map}
 use Rattle.std.specs.Str.{bytes_eq}
-use Rattle.std.proofs.lemmas.Bool.{and_from, both_ways, eq-eqb, ne_eqb, eqb-true, or_left, or_right}
-use Rattle.spec_data.specs.Lists.{look_up, is_among, are_different, has_number}
-use Rattle.spec_terms.specs.Precondition.{Holding, deposits, names_of}
+use Rattle.std.proofs.lemmas.Bool.{both_ways, eq-eqb, ne_eqb}
+use Rattle.spec_data.specs.Lists.{look_up, is_among, has_number}
+use Rattle.spec_terms.specs.Precondition.{Holding, deposits}
 use Rattle.spec_calculus.specs.declared.step.Owner.TheVariants as owners
 use Rattle.spec_calculus.specs.declared.parts.Deposit.{Deposit as LiveDeposit}
 use Rattle.spec_calculus.specs.declared.parts.ActiveContract.{ActiveContract}
-use Rattle.spec_calculus.specs.Beginning.{is_there as is_bound_there, are_there, and_then, numbers_of}
-use Rattle.spec_calculus.specs.InOrder.{stands_in_order, are_ascending}
-use Rattle.spec_calculus.specs.Moves.{deposit_at, is_live, kept}
+use Rattle.spec_calculus.specs.Beginning.{and_then, numbers_of}
+use Rattle.spec_calculus.specs.InOrder.{are_ascending}
+use Rattle.spec_calculus.specs.Moves.{is_live, kept}
 use Rattle.spec_bitcoin.specs.declared.tx.OutPoint.{OutPoint}
 use Rattle.spec_compiler.specs.Keyed.Instance.{Instance}
 use Rattle.theory_calculus.specs.Members.{Is_in}
-use Rattle.theory_calculus.proofs.Members.{in_left, all_in}
+use Rattle.theory_calculus.proofs.Members.{in_left}
 use Rattle.theory_calculus.proofs.Names.{bytes-true, bytes_refl}
 use Rattle.theory_world.proofs.Hashed.{find_any}
 use Rattle.theory_world.proofs.Tests.{any-append, filter-append}
-use Rattle.theory_run.proofs.Steps.CommitSteps.{every}
 use Rattle.spec_chain.specs.declared.happened.Happened.{Happened}
 use Rattle.spec_chain.specs.declared.output.Held.{Held}
 use Rattle.spec_chain.specs.declared.output.Held.TheVariants as helds

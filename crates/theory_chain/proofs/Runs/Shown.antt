@@ -1,16 +1,15 @@
 -- What a chain's transactions show: whoever opens a branch shows all that it reveals, and the lengths are those of its predicate.
-use Rattle.std.proofs.Common.{◌≡◌, ℕ, suc, ◌+◌, ◌-◌, List, [], ◌∷◌, ◌++◌, length, map, reverse, Bool, true, false, Option, Some, None}
+use Rattle.std.proofs.Common.{◌≡◌, ℕ, ◌-◌, List, [], ◌∷◌, ◌++◌, length, map, reverse, Bool, true, false, Option, Some, None}
 use Rattle.std.proofs.Common.{refl, sym, ap, subst, ◌∙◌, inl, inr, cond, arith}
 use Rattle.std.specs.Prelude.{nat_lt, nat_le}
 use Rattle.std.specs.Option.{option_map_or}
 use Rattle.std.proofs.lemmas.Bool.Decides.{nat_tests}
 use Rattle.std.proofs.lemmas.List.{reverse-append}
-use Rattle.std.specs.Prelude.{◌⊎◌, ◌||◌, ◌&&◌, not, is_some, slice_get, drop}
-use Rattle.std.specs.List.{list_any, list_all, filter, find, flat_map}
+use Rattle.std.specs.Prelude.{◌⊎◌, ◌||◌, not, is_some, slice_get, drop}
+use Rattle.std.specs.List.{list_any, list_all, flat_map}
 use Rattle.std.specs.Str.{bytes_eq}
-use Rattle.std.proofs.lemmas.Bool.{and_parts, and_from, both_ways, not-true}
+use Rattle.std.proofs.lemmas.Bool.{and_parts, and_from, not-true}
 use Rattle.spec_data.specs.Lists.{look_up, is_among, are_different, or_else}
-use Rattle.spec_data.specs.Messages.{noted_all}
 use Rattle.spec_data.specs.Ranges.{least_secret_bytes, most_item_bytes}
 use Rattle.spec_terms.specs.Term as term
 use Rattle.spec_terms.specs.Term.{Contract, branches}
@@ -20,20 +19,19 @@ use Rattle.spec_terms.specs.Value.{holds}
 use Rattle.spec_terms.specs.declared.path.PathStep.{PathStep}
 use Rattle.spec_bitcoin.specs.declared.tx.Tx.{Tx}
 use Rattle.spec_bitcoin.specs.declared.tx.TxIn.{TxIn}
-use Rattle.spec_bitcoin.specs.Meaning.{script_meaning}
 use Rattle.spec_bitcoin.specs.Spelling.{is_filled}
 use Rattle.spec_bitcoin.specs.Verdict.{script_of, items_of, is_long}
 use Rattle.spec_compiler.specs.Scripts.{digest_of}
 use Rattle.spec_compiler.specs.Witness.{chosen, chosen_by}
 use Rattle.spec_compiler.specs.Keyed.Instance.{Instance, position_script}
 use Rattle.spec_compiler.specs.Keyed.Keys.{Keys}
-use Rattle.spec_compiler.specs.Keyed.Statements.{Opens, IsCompiled, is_short, is_secret, are_secrets, lengths_of, secret_lengths}
+use Rattle.spec_compiler.specs.Keyed.Statements.{IsCompiled, is_short, is_secret, are_secrets, secret_lengths}
 use Rattle.spec_run.specs.Ledger.{first_witness}
 use Rattle.spec_deal.specs.Finished.{bytes_or_none, choices_at}
 use Rattle.spec_deal.specs.SecretFile.{has_length}
 use Rattle.theory_calculus.specs.Members.{Is_in}
-use Rattle.theory_calculus.proofs.Members.{in_left, in_right, in_append, in_filter, filter_has, found, some_there}
-use Rattle.theory_calculus.proofs.Names.{bytes-true, bytes_refl, looked_in, in_named, named_looked, different_names}
+use Rattle.theory_calculus.proofs.Members.{in_left, in_right, in_append, filter_has, some_there}
+use Rattle.theory_calculus.proofs.Names.{bytes-true, looked_in, in_named, named_looked, different_names}
 use Rattle.theory_script.proofs.Keyed.Chosen.{opened_is_chosen}
 use Rattle.theory_script.proofs.Keyed.Opened.{opens_exactly}
 use Rattle.theory_script.proofs.Keyed.Stands.{some_same}
@@ -42,7 +40,7 @@ use Rattle.theory_world.proofs.Hashed.{find_any}
 use Rattle.theory_run.proofs.Accepted.Tested.{secrets_different}
 use Rattle.spec_chain.specs.Following.{State, items_in, is_string_of, string_shown, is_newly_shown, newly_shown, strings_shown}
 use Rattle.spec_chain.specs.Refusals.{takes_all, opens}
-use Rattle.theory_chain.proofs.Deals.Whole.{Whole, in_map, from_map, among_in}
+use Rattle.theory_chain.proofs.Deals.Whole.{Whole}
 use Rattle.theory_chain.proofs.Deals.Outputs.{any_there}
 use Rattle.theory_chain.proofs.Runs.Kept.{IsShown}
 

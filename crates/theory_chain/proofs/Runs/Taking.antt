@@ -1,20 +1,19 @@
 -- The steps of a branch's transaction are legal, and the configuration tracks the chain after them.
-use Rattle.std.proofs.Common.{◌≡◌, ℕ, zero, suc, ◌+◌, ◌-◌, ◌<◌, ◌≤◌, List, [], ◌∷◌, ◌++◌, length, map, Bool, true, false, Option, Some, None}
-use Rattle.std.proofs.Common.{refl, sym, ap, subst, ◌∙◌, inl, inr, cond, arith, append_assoc, append-nil, length-append}
-use Rattle.std.specs.Prelude.{◌⊎◌, ◌||◌, ◌&&◌, ◌==◌, not, is_some, slice_get, nat_le}
-use Rattle.std.specs.List.{list_any, list_all, filter, find, flat_map}
+use Rattle.std.proofs.Common.{◌≡◌, ℕ, suc, ◌+◌, ◌-◌, ◌≤◌, List, [], ◌∷◌, ◌++◌, length, map, Bool, true, false, Option, Some, None}
+use Rattle.std.proofs.Common.{refl, sym, ap, subst, ◌∙◌, inl, inr, cond, append-nil}
+use Rattle.std.specs.Prelude.{◌⊎◌, ◌||◌, ◌&&◌, ◌==◌, not, is_some, nat_le}
+use Rattle.std.specs.List.{filter, flat_map}
 use Rattle.std.specs.Option.{option_map_or}
 use Rattle.std.specs.Str.{bytes_eq}
-use Rattle.std.proofs.lemmas.Bool.{and_parts, and_from, both_ways, eq-eqb, ne_eqb, eqb-true, or_left, or_right}
-use Rattle.std.proofs.lemmas.Bool.Decides.{nat_tests}
-use Rattle.spec_data.specs.Lists.{AllTrue, look_up, is_among, has_number}
-use Rattle.spec_data.specs.Ranges.{least_secret_bytes, most_secret_length}
+use Rattle.std.proofs.lemmas.Bool.{and_from, both_ways, eq-eqb, eqb-true, or_left, or_right}
+use Rattle.spec_data.specs.Lists.{AllTrue, look_up, is_among}
+use Rattle.spec_data.specs.Ranges.{most_secret_length}
 use Rattle.spec_terms.specs.Advert.{Advert}
 use Rattle.spec_terms.specs.Term as term
 use Rattle.spec_terms.specs.Term.{Contract, branches, Parts, no_part, part, auth, after, put_reveal, withdraw, split}
 use Rattle.spec_terms.specs.Core.{core, asks, is_asked, lock, puts_of, reveals_of, test_of}
 use Rattle.spec_terms.specs.Paths.{at}
-use Rattle.spec_terms.specs.Precondition.{Holding, deposits, secrets, names_of, volatile, value_of_puts}
+use Rattle.spec_terms.specs.Precondition.{deposits, volatile, value_of_puts}
 use Rattle.spec_terms.specs.Value.{holds}
 use Rattle.spec_terms.specs.declared.path.PathStep.{PathStep}
 use Rattle.spec_terms.specs.declared.path.PathStep.TheVariants.{Branch as To}
@@ -25,10 +24,8 @@ use Rattle.spec_calculus.specs.declared.parts.Deposit.{Deposit as LiveDeposit}
 use Rattle.spec_calculus.specs.declared.parts.ActiveContract.{ActiveContract}
 use Rattle.spec_calculus.specs.declared.parts.Advertised.{Advertised}
 use Rattle.spec_calculus.specs.declared.parts.BranchAuthorisation.{BranchAuthorisation}
-use Rattle.spec_calculus.specs.declared.parts.Committed.{Committed}
-use Rattle.spec_calculus.specs.declared.parts.Revealed.{Revealed}
 use Rattle.spec_calculus.specs.Beginning.{contract_at, pre_of, fee_of, bindings_of, are_there, numbers_of}
-use Rattle.spec_calculus.specs.Branches.{active_at, contract_number, balance_of, advert_of, branch_of, branch_in, asks_of, lock_of, has_branch_authorised, have_branch_authorised, is_put, is_put_core, is_withdraw, is_withdraw_core, is_split, is_split_core, puts_of_taken, reveals_of_taken, test_of_taken, payee_of, payee_in, values_of, values_in, part_values, gone, total_value, others, parts_made, are_revealed, is_revealed_by, secret_length, secret_lengths, length_by, known_length}
+use Rattle.spec_calculus.specs.Branches.{active_at, contract_number, advert_of, branch_of, branch_in, asks_of, lock_of, has_branch_authorised, have_branch_authorised, is_put_core, is_withdraw, is_withdraw_core, is_split, is_split_core, puts_of_taken, payee_of, payee_in, values_of, values_in, part_values, gone, total_value, others, parts_made, are_revealed, secret_lengths}
 use Rattle.spec_calculus.specs.Configuration.{Configuration}
 use Rattle.spec_calculus.specs.Moves.{kept}
 use Rattle.spec_calculus.specs.Steps.{branch_at, with_branch, continued, withdrawn, divided, effect, after_steps, Legal, auth_branch_premises, put_reveal_premises, withdraw_premises, split_premises}
@@ -43,19 +40,15 @@ use Rattle.spec_compiler.specs.declared.unsigned.Unsigned.{Unsigned}
 use Rattle.spec_compiler.specs.Keyed.ByPath.{position_at}
 use Rattle.spec_compiler.specs.Keyed.Instance.{Instance, people, branch_path}
 use Rattle.spec_compiler.specs.Keyed.Keys.{Keys}
-use Rattle.spec_compiler.specs.Keyed.Transactions.{Standing, tx_of, branch_unsigned, continued_value, part_position, part_outputs, core_outputs, outpoint_or_none, put_deposits, deposit, holding_or_none}
+use Rattle.spec_compiler.specs.Keyed.Transactions.{Standing, tx_of, part_position, part_outputs, core_outputs, put_deposits, deposit, holding_or_none}
 use Rattle.spec_run.specs.Steps.{auth_branch, core_step}
-use Rattle.spec_tool.specs.declared.which.Which.TheVariants as names
-use Rattle.spec_tool.specs.Keyed.Listed.{Listed, path_listed}
 use Rattle.spec_deal.specs.Needed.{deal_contract, needed_deposits}
-use Rattle.spec_deal.specs.Transactions.{transaction, transactions}
 use Rattle.theory_calculus.specs.Members.{Is_in}
 use Rattle.theory_calculus.proofs.Funded.{IsFine}
-use Rattle.theory_calculus.proofs.Members.{in_left, in_right, in_append, in_filter, all_in, found}
+use Rattle.theory_calculus.proofs.Members.{in_filter, all_in, found}
 use Rattle.theory_calculus.proofs.Names.{bytes-true, bytes_refl, named_looked, looked_in, all_among}
-use Rattle.theory_calculus.proofs.Standing.{IsTaken, taken_by as taken_at, put_value}
-use Rattle.theory_script.proofs.Checked.{puts_known, reveals_known}
-use Rattle.theory_script.proofs.Keyed.Stands.{some_same, position_stands}
+use Rattle.theory_calculus.proofs.Standing.{taken_by as taken_at, put_value}
+use Rattle.theory_script.proofs.Keyed.Stands.{some_same}
 use Rattle.theory_world.proofs.Contracts.Mentions.{branch_named, asked_mentioned}
 use Rattle.theory_world.proofs.Same.{place-true, place_refl}
 use Rattle.theory_world.proofs.Tests.{any-append}
@@ -69,14 +62,14 @@ use Rattle.spec_chain.specs.declared.output.Held.{Held}
 use Rattle.spec_chain.specs.declared.output.Held.TheVariants as helds
 use Rattle.spec_chain.specs.declared.output.Output.{Output}
 use Rattle.spec_chain.specs.Chain.{Course}
-use Rattle.spec_chain.specs.Following.{State, branch_steps, first_spent, selected}
+use Rattle.spec_chain.specs.Following.{branch_steps, first_spent}
 use Rattle.spec_chain.specs.Outputs.{is_position, is_there, has_place, output_there, without_all, made_from, core_held, parts_held, deposit_outputs}
-use Rattle.theory_chain.specs.ChainSteps.{deal_bindings, is_taken, taken_by, paid_deposit, deposits_shown, contracts_shown, active_contract, revealed_secret}
+use Rattle.theory_chain.specs.ChainSteps.{deal_bindings, taken_by, paid_deposit, active_contract, revealed_secret}
 use Rattle.theory_chain.proofs.Deals.Whole.{Whole, from_map, in_map}
 use Rattle.theory_chain.proofs.Deals.Positions.{path_named, branch_at_path, in_flat, among_is, position_made, same_outpoint}
 use Rattle.theory_chain.proofs.Deals.Outputs.{at_place, any_there, there_of, deposit_of}
 use Rattle.theory_chain.proofs.Deals.Transactions.{OfBranch, IsPosition, IsHeld}
-use Rattle.theory_chain.proofs.Runs.Agreed.{fine_along, advertised_deal, committed_by, committed_length}
+use Rattle.theory_chain.proofs.Runs.Agreed.{fine_along}
 use Rattle.theory_chain.proofs.Runs.Kept.{Kept, deposit_apart}
 use Rattle.theory_chain.proofs.Runs.Left.{flat_append, lies_at, contracts_left, ascending_found, deposits_after}
 use Rattle.theory_chain.proofs.Runs.Tracking.{Tracks, Counts, numbers_are, numbers_later, deposits_left, position_apart}

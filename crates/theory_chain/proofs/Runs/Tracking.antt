@@ -1,20 +1,18 @@
 -- How a configuration tracks a chain, and what its secrets and its deposits are to the next transaction.
-use Rattle.std.proofs.Common.{◌≡◌, ℕ, zero, suc, ◌+◌, ◌-◌, ◌<◌, ◌≤◌, List, [], ◌∷◌, ◌++◌, length, map, Bool, true, false, Option, Some, None}
-use Rattle.std.proofs.Common.{refl, sym, ap, subst, ◌∙◌, inl, inr, cond, arith, append_assoc, append-nil, length-append}
-use Rattle.std.specs.Prelude.{◌⊎◌, ◌||◌, ◌&&◌, ◌==◌, not, is_some, slice_get}
-use Rattle.std.specs.List.{list_any, list_all, filter, find, flat_map}
+use Rattle.std.proofs.Common.{◌≡◌, ℕ, suc, ◌+◌, ◌≤◌, List, [], ◌∷◌, ◌++◌, length, map, Bool, true, false, Option, Some, None}
+use Rattle.std.proofs.Common.{refl, sym, ap, subst, ◌∙◌, inl, inr, cond, arith}
+use Rattle.std.specs.Prelude.{◌⊎◌, ◌||◌, ◌&&◌, not, is_some}
+use Rattle.std.specs.List.{filter, flat_map}
 use Rattle.std.specs.Str.{bytes_eq}
-use Rattle.std.proofs.lemmas.Bool.{and_parts, and_from, both_ways, or_left, not-true}
+use Rattle.std.proofs.lemmas.Bool.{and_parts, and_from, or_left, not-true}
 use Rattle.spec_data.specs.Lists.{look_up, is_among, are_different, has_number}
-use Rattle.spec_data.specs.Messages.{noted_all, collision}
-use Rattle.spec_data.specs.Ranges.{least_secret_bytes, most_secret_length}
+use Rattle.spec_data.specs.Ranges.{most_secret_length}
 use Rattle.spec_terms.specs.Parties.{choice_mentions}
 use Rattle.spec_terms.specs.Precondition.{Holding, deposits, secrets, names_of, party_of}
 use Rattle.spec_terms.specs.declared.pre.Pre.{Pre}
 use Rattle.spec_terms.specs.declared.pre.Pre.TheVariants.{Persistent, Volatile, Secret}
 use Rattle.spec_terms.specs.declared.path.PathStep.{PathStep}
 use Rattle.spec_calculus.specs.declared.parts.Deposit.{Deposit as LiveDeposit}
-use Rattle.spec_calculus.specs.declared.parts.Committed.{Committed}
 use Rattle.spec_calculus.specs.declared.parts.Revealed.{Revealed}
 use Rattle.spec_calculus.specs.Beginning.{is_there as is_bound_there, are_there, numbers_of}
 use Rattle.spec_calculus.specs.Branches.{is_revealed}
@@ -24,35 +22,31 @@ use Rattle.spec_calculus.specs.Steps.{after_steps, Legal}
 use Rattle.spec_bitcoin.specs.declared.tx.OutPoint.{OutPoint}
 use Rattle.spec_bitcoin.specs.declared.tx.Tx.{Tx}
 use Rattle.spec_bitcoin.specs.Live.{same_outpoint}
-use Rattle.spec_compiler.specs.declared.unsigned.Spent.{Spent}
 use Rattle.spec_compiler.specs.Keyed.Instance.{Instance, people}
 use Rattle.spec_compiler.specs.Keyed.Keys.{Keys}
 use Rattle.spec_compiler.specs.Keyed.Transactions.{outpoint_or_none}
 use Rattle.spec_deal.specs.Finished.{bytes_or_none}
-use Rattle.spec_deal.specs.Needed.{deal_contract, needed_deposits}
-use Rattle.spec_deal.specs.Transactions.{transactions}
+use Rattle.spec_deal.specs.Needed.{deal_contract}
 use Rattle.theory_calculus.specs.Members.{Is_in}
 use Rattle.theory_calculus.proofs.Funded.{IsFine}
-use Rattle.theory_calculus.proofs.Members.{in_left, in_right, in_append, in_filter}
-use Rattle.theory_calculus.proofs.Names.{bytes-true, bytes_refl, looked_in, in_looked, in_named, named_looked, deposits_different, different_names}
+use Rattle.theory_calculus.proofs.Members.{in_filter}
+use Rattle.theory_calculus.proofs.Names.{bytes-true, bytes_refl, in_looked, in_named, deposits_different, different_names}
 use Rattle.theory_world.proofs.Contracts.Mentions.{added}
 use Rattle.theory_world.proofs.Hashed.{among_left, among_head, among_tail}
 use Rattle.theory_script.proofs.Keyed.Stands.{some_same}
 use Rattle.theory_world.proofs.Same.{place_refl}
 use Rattle.theory_world.proofs.Tests.{map_append}
 use Rattle.theory_run.proofs.Steps.CommitSteps.{every}
-use Rattle.spec_chain.specs.declared.happened.Happened.{Happened}
-use Rattle.spec_chain.specs.declared.output.Held.{Held}
 use Rattle.spec_chain.specs.declared.output.Held.TheVariants as helds
 use Rattle.spec_chain.specs.declared.output.Output.{Output}
 use Rattle.spec_chain.specs.Chain.{Course}
-use Rattle.spec_chain.specs.Following.{State, is_newly_shown, newly_shown, string_shown, strings_shown, reveal_steps}
+use Rattle.spec_chain.specs.Following.{is_newly_shown, newly_shown, string_shown, strings_shown, reveal_steps}
 use Rattle.spec_chain.specs.Outputs.{is_position, has_place, deposits_from, deposit_outputs}
-use Rattle.theory_chain.specs.ChainSteps.{numbered, deal_bindings, is_taken, deposits_shown, contracts_shown, active_contract, secrets_revealed, revealed_secret, left_from, paid_deposit}
+use Rattle.theory_chain.specs.ChainSteps.{numbered, deal_bindings, is_taken, deposits_shown, contracts_shown, secrets_revealed, revealed_secret, paid_deposit}
 use Rattle.theory_chain.proofs.Deals.Whole.{Whole}
 use Rattle.theory_chain.proofs.Deals.Outputs.{HasNumber, numbered_in, bound_number, deposit_output, deposit_of, deposit_there, at_place}
 use Rattle.theory_chain.proofs.Runs.Agreed.{advertised_deal, committed_by, revealed_by, reveals_legal}
-use Rattle.theory_chain.proofs.Runs.Kept.{Kept, Came, deposit_apart}
+use Rattle.theory_chain.proofs.Runs.Kept.{Kept, deposit_apart}
 use Rattle.theory_chain.proofs.Runs.Left.{number_among, number_apart, numbered_below, left_live}
 use Rattle.theory_chain.proofs.Runs.Shown.{secret_names}
 

@@ -17,7 +17,7 @@ use Rattle.spec_deal.specs.declared.fault.SecretFault.TheVariants as faults
 use Rattle.spec_deal.specs.Hashed.{deal_strings}
 use Rattle.spec_deal.specs.Needed.{needed_secrets}
 use Rattle.spec_deal.specs.SecretFile.{Line, empty, bad, collides, gives, if_fits, hashed_line, has_length, if_new, with_bytes, named_line}
-use Rattle.spec_deal.specs.SecretFile.{line_says, SecretsRead, shows, refused, collided, read_lines}
+use Rattle.spec_deal.specs.SecretFile.{secret_line, state_words, line_says, SecretsRead, shows, refused, collided, read_lines}
 use Rattle.spec_deal.specs.Sizes.{most_secrets_bytes}
 use Rattle.theory_calculus.specs.Members.{Is_in}
 use Rattle.theory_calculus.proofs.Members.{in_append}
@@ -79,17 +79,26 @@ module _ (hash : List ℕ → List ℕ) (s : Instance) where
       by_test true = word_bytes messages taken n name word (read_hex word) refl
       by_test false = tt
 
-  line_bytes : (messages : List (List ℕ)) (taken : List Shown) (n : ℕ) (words : List (List ℕ))
-      → LineBytes (line_says hash s messages taken n words)
-  line_bytes messages taken n [] = tt
-  line_bytes messages taken n (word ∷ []) = tt
-  line_bytes messages taken n (word ∷ (name ∷ [])) = tt
-  line_bytes messages taken n (word ∷ (name ∷ (hex ∷ []))) = by_test (bytes_eq word (codes "secret"))
+  secret_line_bytes : (messages : List (List ℕ)) (taken : List Shown) (n : ℕ) (words : List (List ℕ))
+      → LineBytes (secret_line hash s messages taken n words)
+  secret_line_bytes messages taken n [] = tt
+  secret_line_bytes messages taken n (word ∷ []) = tt
+  secret_line_bytes messages taken n (word ∷ (name ∷ [])) = tt
+  secret_line_bytes messages taken n (word ∷ (name ∷ (hex ∷ []))) = by_test (bytes_eq word (codes "secret"))
     where
       by_test : (b : Bool) → LineBytes (cond b (named_line hash s messages taken n name hex) (bad reasons.Form))
       by_test true = named_bytes messages taken n name hex
       by_test false = tt
-  line_bytes messages taken n (word ∷ (name ∷ (hex ∷ (next ∷ words)))) = tt
+  secret_line_bytes messages taken n (word ∷ (name ∷ (hex ∷ (next ∷ words)))) = tt
+
+  line_bytes : (messages : List (List ℕ)) (taken : List Shown) (n : ℕ) (words : List (List ℕ))
+      → LineBytes (line_says hash s messages taken n words)
+  line_bytes messages taken n [] = tt
+  line_bytes messages taken n (word ∷ words) = by_first (is_among word state_words)
+    where
+      by_first : (b : Bool) → LineBytes (cond b empty (secret_line hash s messages taken n (word ∷ words)))
+      by_first true = tt
+      by_first false = secret_line_bytes messages taken n (word ∷ words)
 
   lines_bytes : (messages : List (List ℕ)) (taken : List Shown) (n : ℕ) (lines : List (List ℕ)) → ShownBytes taken
       → IfBytes (read_lines hash s messages taken n lines)

@@ -1,0 +1,5 @@
+use Rattle.theory_chain.proofs.Revealed as proof
+use Rattle.theory_chain.proofs.secrets_exactly.Goals as goal
+
+pub returns : goal.returns
+returns c = proof.secrets_exactly

@@ -13,13 +13,14 @@ use Rattle.spec_tool.specs.Commands.{Printed}
 use Rattle.spec_tool.specs.Reads.{Read, Text, texts_read}
 use Rattle.spec_compiler.specs.Keyed.OwnScripts.{no_scripts}
 use Rattle.spec_deal.specs.declared.deal.Deal.{Deal}
-use Rattle.spec_deal.specs.Answers.{deal_text_answer, deal_read_answer, deal_answer}
-use Rattle.spec_deal.specs.Commands.{DealCommand, deal_files}
 use Rattle.spec_deal.specs.DealFile.{read_deal}
 use Rattle.spec_deal.specs.Setting.{key_at, deal_keys, deal_instance}
 use Rattle.spec_deal.specs.Verifier.{secp256k1}
+use Rattle.spec_chain.specs.Answers.{chain_text_answer, chain_read_answer, chain_answer}
+use Rattle.spec_chain.specs.Commands as chains
+use Rattle.spec_chain.specs.Commands.{ChainCommand, on_deal, chain_files}
 use Rattle.theory_deal.specs.Asked.{DealsAsk}
-use Rattle.theory_deal.specs.Causes.{deal_statuses, DealCausesTheorem}
+use Rattle.theory_deal.specs.Causes.{DealCausesTheorem}
 use Rattle.theory_deal.specs.Ecdsa.{IsEcdsa}
 use Rattle.theory_deal.specs.Files.{DealsGiveAll, DealsAreSized, KeysArePoints, SignaturesVerify}
 use Rattle.theory_deal.specs.FinishAnswers.{FinishAnswers}
@@ -31,16 +32,19 @@ use Rattle.theory_deal.specs.Signatures.{MissingAndHeld, MayStart}
 use Rattle.theory_deal.specs.Transactions.{DealsHash}
 use Rattle.theory_deal.specs.Whole.{FinishesExactly, FinishTheorem}
 use Rattle.theory_deal.proofs.WellFormed.{well_formed}
+use Rattle.theory_state.specs.Causes.{chain_statuses, ChainCausesTheorem}
+use Rattle.theory_state.specs.StateAnswers.{StateAnswers}
 use Rattle.tool_shell.specs.Around.{Around}
 use Rattle.tool_shell.specs.Answered.{GivesUp}
 use Rattle.tool_shell.proofs.Ended.{ended_with}
 use Rattle.tool_shell.proofs.Seen.{some_command}
-use Rattle.bitml_deal.specs.Dealt.{Answers, AnswersOrGivesUp, CausedByTexts, Caused, Keeps, KeepsTaken}
-use Rattle.bitml_deal.specs.Dealt.{KeepsTexts, SignersTexts, IfFinished, ReadsFiles, Headline}
+use Rattle.bitml_deal.specs.Dealt.{Answers, AnswersOrGivesUp, HasCausesOf, CausedByTexts, Caused, Keeps, KeepsTaken}
+use Rattle.bitml_deal.specs.Dealt.{KeepsTexts, SignersTexts, IfFinishedBy, IfFinished, IfStandsRead, ReadsFiles, FollowsChains, ForeseesChains, Headline}
 
 -- the theorems that are cited
 pub record Theorems : Type 0 where
-  pub causes : DealCausesTheorem
+  pub deal_causes : DealCausesTheorem
+  pub causes : ChainCausesTheorem
   pub gives_all : DealsGiveAll
   pub sized : DealsAreSized
   pub points : KeysArePoints
@@ -57,6 +61,9 @@ pub record Theorems : Type 0 where
   pub exactly : FinishesExactly
   pub finished : FinishTheorem
   pub answers : FinishAnswers
+  pub stands : StateAnswers
+  pub follows : FollowsChains
+  pub foresees : ForeseesChains
   pub scripts : ScriptTheorem
   pub no_other_way : FalseWithoutOne
 
@@ -64,7 +71,7 @@ pub record Theorems : Type 0 where
 
 -- the statuses of answers
 abbrev known : List ℕ
-known = 2 ∷ 3 ∷ deal_statuses
+known = 2 ∷ 3 ∷ chain_statuses
 
 -- a status that is none of these isn't answered
 never : (status n : ℕ) → has_number n known ≡ false → has_number status known ≡ true → status ≡ n → ⊥
@@ -77,29 +84,38 @@ unwritten_by printed false there e = refl
 five_by : (printed : Printed) (went : Bool) → has_number printed.status known ≡ true → 5 ≡ ended printed went → ⊥
 five_by printed went there e = never printed.status 5 refl there (ended_with printed went 5 (λ f. absurd (cc)) e)
 
-or_known : (n : ℕ) → has_number n deal_statuses ≡ true → has_number n known ≡ true
+or_known : (n : ℕ) → has_number n chain_statuses ≡ true → has_number n known ≡ true
 or_known n h = grind (arith, h)
 
 module _ (t : Theorems) (hash : List ℕ → List ℕ) (bytes : HashesBytes hash) where
-  read_known : (command : DealCommand) (o : Option (List Text)) → has_number (deal_read_answer secp256k1 hash command o).status known ≡ true
+  read_known : (command : ChainCommand) (o : Option (List Text)) → has_number (chain_read_answer secp256k1 hash command o).status known ≡ true
   read_known command None = refl
-  read_known command (Some texts) = or_known (deal_text_answer secp256k1 hash command texts).status (t.causes.others secp256k1 hash command texts)
+  read_known command (Some texts) = or_known (chain_text_answer secp256k1 hash command texts).status (t.causes.others secp256k1 hash command texts)
 
-  answer_known : (command : Option DealCommand) (reads : List Read) → has_number (deal_answer secp256k1 hash command reads).status known ≡ true
+  answer_known : (command : Option ChainCommand) (reads : List Read) → has_number (chain_answer secp256k1 hash command reads).status known ≡ true
   answer_known None reads = refl
   answer_known (Some command) reads = read_known command (texts_read reads)
 
   -- ---- causes
 
-  caused_by : (command : DealCommand) (o : Option (List Text)) → CausedByTexts hash command o (deal_read_answer secp256k1 hash command o)
-  caused_by command None = (refl, refl)
-  caused_by command (Some texts) = record {
-    contract_refused = t.causes.contract_refused secp256k1 hash command texts;
-    deal_refused = t.causes.deal_refused secp256k1 hash command texts;
-    in_order = t.causes.in_order secp256k1 hash command texts;
+  caused_texts : (command : ChainCommand) (texts : List Text)
+      → HasCausesOf hash command texts (chain_text_answer secp256k1 hash command texts).status
+  caused_texts (on_deal command) texts = record {
+    contract_refused = t.deal_causes.contract_refused secp256k1 hash command texts;
+    deal_refused = t.deal_causes.deal_refused secp256k1 hash command texts;
+    in_order = t.deal_causes.in_order secp256k1 hash command texts;
   }
+  caused_texts (chains.state contract deal chain signatures) texts =
+      t.causes.in_order secp256k1 hash (chains.state contract deal chain signatures) texts
+  caused_texts (chains.state_with contract deal chain signatures secrets) texts =
+      t.causes.in_order secp256k1 hash (chains.state_with contract deal chain signatures secrets) texts
 
-  caused : (command : Option DealCommand) (reads : List Read) → Caused hash command reads (deal_answer secp256k1 hash command reads)
+  caused_by : (command : ChainCommand) (o : Option (List Text))
+      → CausedByTexts hash command o (chain_read_answer secp256k1 hash command o)
+  caused_by command None = (refl, refl)
+  caused_by command (Some texts) = caused_texts command texts
+
+  caused : (command : Option ChainCommand) (reads : List Read) → Caused hash command reads (chain_answer secp256k1 hash command reads)
   caused None reads = refl
   caused (Some command) reads = caused_by command (texts_read reads)
 
@@ -142,14 +158,33 @@ module _ (t : Theorems) (hash : List ℕ → List ℕ) (bytes : HashesBytes hash
 
   -- ---- a transaction that is finished
 
-  finished_by : (command : DealCommand) (o : Option (List Text)) → IfFinished hash (Some command) o (deal_read_answer secp256k1 hash command o)
-  finished_by command None = tt
-  finished_by command (Some texts) = λ which e zero_status. t.answers secp256k1 hash command texts which bytes e zero_status
+  finished_texts : (command : ChainCommand) (texts : List Text)
+      → IfFinishedBy hash command texts (chain_text_answer secp256k1 hash command texts)
+  finished_texts (on_deal command) texts = λ which e zero_status. t.answers secp256k1 hash command texts which bytes e zero_status
+  finished_texts (chains.state contract deal chain signatures) texts = tt
+  finished_texts (chains.state_with contract deal chain signatures secrets) texts = tt
 
-  finished : (command : Option DealCommand) (reads : List Read)
-      → IfFinished hash command (texts_read reads) (deal_answer secp256k1 hash command reads)
+  finished_by : (command : ChainCommand) (o : Option (List Text))
+      → IfFinished hash (Some command) o (chain_read_answer secp256k1 hash command o)
+  finished_by command None = tt
+  finished_by command (Some texts) = finished_texts command texts
+
+  finished : (command : Option ChainCommand) (reads : List Read)
+      → IfFinished hash command (texts_read reads) (chain_answer secp256k1 hash command reads)
   finished None reads = tt
   finished (Some command) reads = finished_by command (texts_read reads)
+
+  -- ---- where a deal stands
+
+  stands_by : (command : ChainCommand) (o : Option (List Text))
+      → IfStandsRead hash (Some command) o (chain_read_answer secp256k1 hash command o)
+  stands_by command None = tt
+  stands_by command (Some texts) = t.stands secp256k1 hash command texts bytes
+
+  stands : (command : Option ChainCommand) (reads : List Read)
+      → IfStandsRead hash command (texts_read reads) (chain_answer secp256k1 hash command reads)
+  stands None reads = tt
+  stands (Some command) reads = stands_by command (texts_read reads)
 
   -- ---- what signers are given
 
@@ -163,23 +198,26 @@ module _ (t : Theorems) (hash : List ℕ → List ℕ) (bytes : HashesBytes hash
 
   -- ---- the whole
 
-  unread_is : (command : Option DealCommand) (reads : List Read) → (deal_answer secp256k1 hash command reads).status ≡ 3 → texts_read reads ≡ None
+  unread_is : (command : Option ChainCommand) (reads : List Read) → (chain_answer secp256k1 hash command reads).status ≡ 3 → texts_read reads ≡ None
   unread_is None reads e = absurd (cc)
   unread_is (Some c) reads e = (t.causes.unread secp256k1 hash c reads).0 e
 
-  module _ (command : Option DealCommand) (before now : Around) where
+  module _ (command : Option ChainCommand) (before now : Around) where
     of_answer : (status : ℕ) → Answers hash command before now status → Headline hash command before now status
     of_answer status a =
-        let printed = deal_answer secp256k1 hash command a.reads in
+        let printed = chain_answer secp256k1 hash command a.reads in
         record {
           serves = inl (record {
             answers = a;
             caused = caused command a.reads;
             keeps = keeps_texts (texts_read a.reads);
             finished = finished command a.reads;
+            stands = stands command a.reads;
             signers = signers_texts (texts_read a.reads);
             verifier = t.verifier;
             files = t.files;
+            follows = t.follows;
+            foresees = t.foresees;
           });
           usage = λ e. (t.causes.usage secp256k1 hash command a.reads).0 (ended_with printed a.ends.went 2 (λ f. absurd (cc)) (sym e ∙ a.ends.status_is));
           unread = λ e.
@@ -189,13 +227,13 @@ module _ (t : Theorems) (hash : List ℕ → List ℕ) (bytes : HashesBytes hash
           memory = λ e. absurd (five_by printed a.ends.went (answer_known command a.reads) (sym e ∙ a.ends.status_is));
         }
 
-    of_none : (status : ℕ) → GivesUp (option_map deal_files command) before now status → Headline hash command before now status
+    of_none : (status : ℕ) → GivesUp (option_map chain_files command) before now status → Headline hash command before now status
     of_none status g = record {
       serves = inr g;
       usage = λ e. absurd (let f = g.status_is in cc);
       unread = λ e. absurd (let f = g.status_is in cc);
       unwritten = λ e. absurd (let f = g.status_is in cc);
-      memory = λ e. some_command deal_files command g.some;
+      memory = λ e. some_command chain_files command g.some;
     }
 
     pub headline_of : (status : ℕ) → AnswersOrGivesUp hash command before now status → Headline hash command before now status

@@ -3,3 +3,4 @@ mod Headlines
 mod LaterLemmas
 mod NamedLemmas
 mod OpeningLemmas
+mod StateLemmas

@@ -18,8 +18,10 @@ use Rattle.spec_tool.specs.Reads.{Read, Text, text_at, texts_read}
 use Rattle.spec_deal.specs.declared.deal.Deal.{Deal}
 use Rattle.spec_deal.specs.declared.entry.Shown.{Shown}
 use Rattle.spec_deal.specs.declared.signed.Signed.{Signed}
-use Rattle.spec_deal.specs.Answers.{deal_answer}
-use Rattle.spec_deal.specs.Commands.{DealCommand, deal_files}
+use Rattle.spec_deal.specs.Commands.{DealCommand}
+use Rattle.spec_chain.specs.Answers.{chain_answer}
+use Rattle.spec_chain.specs.Commands as chains
+use Rattle.spec_chain.specs.Commands.{ChainCommand, on_deal, chain_files}
 use Rattle.spec_deal.specs.DealFile.{read_deal}
 use Rattle.spec_deal.specs.Finished.{finish_refusal}
 use Rattle.spec_deal.specs.Hashed.{deal_strings}
@@ -41,6 +43,17 @@ use Rattle.theory_deal.specs.SecretLines.{SecretFilesAreRead}
 use Rattle.theory_deal.specs.SignatureLines.{SignatureFilesAreRead}
 use Rattle.theory_deal.specs.Signatures.{ListsExactly, StartsExactly}
 use Rattle.theory_deal.specs.Whole.{AreRead, IsComplete, IsFinished}
+use Rattle.theory_chain.specs.Aside.{AsideAnywhere}
+use Rattle.theory_chain.specs.Files.{ChainsAreSpelled, ChainsAreRefused}
+use Rattle.theory_chain.specs.Follows.{FollowedExactly, RefusedExactly}
+use Rattle.theory_chain.specs.GoingOn.{WhatCanGoesOn}
+use Rattle.theory_chain.specs.OwnAccepted.{OwnIsAccepted}
+use Rattle.theory_chain.specs.Reasons.{BadExactly}
+use Rattle.theory_chain.specs.Refused.{AcceptedExactly, CannotIsRefused, NotAskedIsSpent}
+use Rattle.theory_chain.specs.RequirementOrder.{RequirementsInOrder, WaitsExactly}
+use Rattle.theory_chain.specs.Revealed.{RevealedExactly, RevealedOnce, SecretsExactly}
+use Rattle.theory_state.specs.Causes.{causes as chain_causes}
+use Rattle.theory_state.specs.StateAnswers.{IfStands}
 use Rattle.bm_io.specs.Counts.{RoseBy}
 use Rattle.tool_shell.specs.Around.{Around}
 use Rattle.tool_shell.specs.Answered.{AnswersBy, AnswersByOrGivesUp, GivesUp}
@@ -50,19 +63,19 @@ use Rattle.bitml_deal.specs.declared.tool.DealCall.{DealCall}
 -- ---- the call
 
 -- the command that is served
-abbrev pub seen : DealCall → DealCommand
+abbrev pub seen : DealCall → ChainCommand
 seen call = command call.command
 
 -- ---- answers
 
 -- the answers are those of the definition
-abbrev pub Answers : (List ℕ → List ℕ) → Option DealCommand → Around → Around → ℕ → Type 0
-Answers hash command before now status = AnswersBy (deal_answer secp256k1 hash command) (option_map deal_files command) before now status
+abbrev pub Answers : (List ℕ → List ℕ) → Option ChainCommand → Around → Around → ℕ → Type 0
+Answers hash command before now status = AnswersBy (chain_answer secp256k1 hash command) (option_map chain_files command) before now status
 
 -- the same, or out of memory
-abbrev pub AnswersOrGivesUp : (List ℕ → List ℕ) → Option DealCommand → Around → Around → ℕ → Type 0
+abbrev pub AnswersOrGivesUp : (List ℕ → List ℕ) → Option ChainCommand → Around → Around → ℕ → Type 0
 AnswersOrGivesUp hash command before now status =
-    AnswersByOrGivesUp (deal_answer secp256k1 hash command) (option_map deal_files command) before now status
+    AnswersByOrGivesUp (chain_answer secp256k1 hash command) (option_map chain_files command) before now status
 
 -- ---- causes
 
@@ -76,13 +89,21 @@ pub record HasCauses (hash : List ℕ → List ℕ) (command : DealCommand) (tex
   -- the status is that of the first cause in their order, and 0 where there is none
   pub in_order : status ≡ first_status (causes secp256k1 hash command texts)
 
+-- the same of a command on a chain
+abbrev pub HasCausesOf : (List ℕ → List ℕ) → ChainCommand → List Text → ℕ → Type 0
+HasCausesOf hash (on_deal command) texts status = HasCauses hash command texts status
+HasCausesOf hash (chains.state contract deal chain signatures) texts status =
+    status ≡ first_status (chain_causes secp256k1 hash (chains.state contract deal chain signatures) texts)
+HasCausesOf hash (chains.state_with contract deal chain signatures secrets) texts status =
+    status ≡ first_status (chain_causes secp256k1 hash (chains.state_with contract deal chain signatures secrets) texts)
+
 -- of what was read; a read that failed is answered by 3 and nothing
-abbrev pub CausedByTexts : (List ℕ → List ℕ) → DealCommand → Option (List Text) → Printed → Type 0
+abbrev pub CausedByTexts : (List ℕ → List ℕ) → ChainCommand → Option (List Text) → Printed → Type 0
 CausedByTexts hash command None printed = (printed.status ≡ 3) × (printed.text ≡ [])
-CausedByTexts hash command (Some texts) printed = HasCauses hash command texts printed.status
+CausedByTexts hash command (Some texts) printed = HasCausesOf hash command texts printed.status
 
 -- of reads; words that are no command are answered by 2
-abbrev pub Caused : (List ℕ → List ℕ) → Option DealCommand → List Read → Printed → Type 0
+abbrev pub Caused : (List ℕ → List ℕ) → Option ChainCommand → List Read → Printed → Type 0
 Caused hash None reads printed = printed.status ≡ 2
 Caused hash (Some command) reads printed = CausedByTexts hash command (texts_read reads) printed
 
@@ -145,11 +166,22 @@ KeepsTexts hash (Some texts) = KeepsTaken hash texts
 -- ---- finished transactions
 
 -- where `finish` answers 0, its text is one transaction, which is the plan's, and which ledgers accept
-abbrev pub IfFinished : (List ℕ → List ℕ) → Option DealCommand → Option (List Text) → Printed → Type 0
+abbrev pub IfFinishedBy : (List ℕ → List ℕ) → ChainCommand → List Text → Printed → Type 0
+IfFinishedBy hash (on_deal command) texts printed =
+    (which : Which) → finishes command ≡ Some which → printed.status ≡ 0 → IsFinishedText secp256k1 hash texts which printed.text
+IfFinishedBy hash (chains.state contract deal chain signatures) texts printed = Unit {0}
+IfFinishedBy hash (chains.state_with contract deal chain signatures secrets) texts printed = Unit {0}
+
+abbrev pub IfFinished : (List ℕ → List ℕ) → Option ChainCommand → Option (List Text) → Printed → Type 0
 IfFinished hash None texts printed = Unit {0}
 IfFinished hash (Some command) None printed = Unit {0}
-IfFinished hash (Some command) (Some texts) printed =
-    (which : Which) → finishes command ≡ Some which → printed.status ≡ 0 → IsFinishedText secp256k1 hash texts which printed.text
+IfFinished hash (Some command) (Some texts) printed = IfFinishedBy hash command texts printed
+
+-- where `state` answers 0, its text says where the deal stands after its chain, and that is so
+abbrev pub IfStandsRead : (List ℕ → List ℕ) → Option ChainCommand → Option (List Text) → Printed → Type 0
+IfStandsRead hash None texts printed = Unit {0}
+IfStandsRead hash (Some command) None printed = Unit {0}
+IfStandsRead hash (Some command) (Some texts) printed = IfStands secp256k1 hash command texts printed
 
 -- what signers are given of a deal that is taken
 abbrev pub SignersTexts : (List ℕ → List ℕ) → Option (List Text) → Type 0
@@ -165,28 +197,64 @@ pub record ReadsFiles : Type 0 where
   pub deals : DealFilesAreRead
   pub signatures : SignatureFilesAreRead
   pub secrets : SecretFilesAreRead
+  pub chains : ChainsAreSpelled
+  pub bad_chains : ChainsAreRefused
+
+-- ---- chains
+
+-- a chain is followed to its tip exactly where its file is taken and no transaction is bad, and refused exactly at the first bad line
+pub record FollowsChains : Type 0 where
+  pub followed : FollowedExactly
+  pub refused : RefusedExactly
+  -- by the first of the reasons that holds, each in words of its own
+  pub bad : BadExactly
+  -- each transaction of the deal is one that the ledger accepts where it stands, if every signature is good
+  pub own : OwnIsAccepted
+  -- secrets are known and revealed exactly where the chain or the file of secrets shows them
+  pub secrets : SecretsExactly
+  pub revealed : RevealedExactly
+  pub once : RevealedOnce
+  -- what has nothing to do with the deal may stand anywhere in the chain or be left out
+  pub aside : AsideAnywhere
+
+-- what may come next: what is missing stands in order and once, and names those who can give it
+pub record ForeseesChains : Type 0 where
+  pub in_order : RequirementsInOrder
+  pub waits : WaitsExactly
+  -- what is asked and finished can come exactly where a ledger that has what is live accepts it at the tip
+  pub accepted : AcceptedExactly
+  pub refused : CannotIsRefused
+  pub not_asked : NotAskedIsSpent
+  -- and is then the next transaction of the longer chain
+  pub goes_on : WhatCanGoesOn
 
 -- ---- the headline
 
 -- an answer with what is known of it
-pub record Serves (hash : List ℕ → List ℕ) (command : Option DealCommand) (before now : Around) (status : ℕ) : Type 0 where
+pub record Serves (hash : List ℕ → List ℕ) (command : Option ChainCommand) (before now : Around) (status : ℕ) : Type 0 where
   pub answers : Answers hash command before now status
   -- the answer's status comes exactly by its cause
-  pub caused : Caused hash command answers.reads (deal_answer secp256k1 hash command answers.reads)
+  pub caused : Caused hash command answers.reads (chain_answer secp256k1 hash command answers.reads)
   -- what it shows of a deal that is taken is as the theorems say
   pub keeps : KeepsTexts hash (texts_read answers.reads)
   -- and a transaction that it finishes
-  pub finished : IfFinished hash command (texts_read answers.reads) (deal_answer secp256k1 hash command answers.reads)
+  pub finished : IfFinished hash command (texts_read answers.reads) (chain_answer secp256k1 hash command answers.reads)
+  -- and where a deal stands
+  pub stands : IfStandsRead hash command (texts_read answers.reads) (chain_answer secp256k1 hash command answers.reads)
   -- and the transactions for signers are those of its contract, each under its name
   pub signers : SignersTexts hash (texts_read answers.reads)
   -- signatures are judged by the curve
   pub verifier : IsEcdsa
   -- and each file is read by its lines
   pub files : ReadsFiles
+  -- and each chain is followed exactly
+  pub follows : FollowsChains
+  -- and what may come next is foreseen
+  pub foresees : ForeseesChains
 
 -- what a call with this command does to what stands around it, and its status
-pub record Headline (hash : List ℕ → List ℕ) (command : Option DealCommand) (before now : Around) (status : ℕ) : Type 0 where
-  pub serves : Serves hash command before now status ⊎ GivesUp (option_map deal_files command) before now status
+pub record Headline (hash : List ℕ → List ℕ) (command : Option ChainCommand) (before now : Around) (status : ℕ) : Type 0 where
+  pub serves : Serves hash command before now status ⊎ GivesUp (option_map chain_files command) before now status
   -- the usage answers nothing but words that are no command
   pub usage : status ≡ 2 → command ≡ None
   -- a fault of the files is answered only where their count rose

@@ -1,5 +1,6 @@
 -- What is answered of the further files of a command, once its deal is compiled.
-use Rattle.std.specs.Prelude.{◌≡◌, ℕ, List, [], Option, Some, None, Result, Err}
+use Rattle.std.specs.Prelude.{◌≡◌, ℕ, List, [], Bool, true, Option, Some, None, Result, Err}
+use Rattle.std.specs.List.{list_all}
 use Rattle.spec_tool.specs.Answers.{unread}
 use Rattle.spec_tool.specs.Commands.{Printed, prints}
 use Rattle.spec_tool.specs.PsbtText.{psbt_line}
@@ -18,12 +19,18 @@ use Rattle.spec_deal.specs.Commands as commands
 use Rattle.spec_deal.specs.Commands.{DealCommand}
 use Rattle.spec_deal.specs.DealText.{plan_text, psbts_text, unsigned_psbt, missing_text, held_text}
 use Rattle.spec_deal.specs.RefusedText.{finish_refused_line}
-use Rattle.spec_deal.specs.SecretFile.{SecretsRead, shows}
+use Rattle.spec_deal.specs.SecretFile.{has_length, SecretsRead, shows}
 use Rattle.spec_deal.specs.SignatureFile.{read_given}
 use Rattle.spec_deal.specs.Verifier.{secp256k1}
+use Rattle.spec_chain.specs.Answers.{chain_in, with_course, told_in, stood_answer}
+use Rattle.spec_chain.specs.Chain.{Course, follow_reading}
+use Rattle.spec_chain.specs.Commands as chains
+use Rattle.spec_chain.specs.Commands.{ChainCommand, on_deal}
+use Rattle.theory_deal.specs.Causes.{reads_deal as reads_its_deal}
 use Rattle.spec_tool.specs.Replies.{printed}
 use Rattle.deal_finish.specs.declared.error.FinishError.{FinishError}
 use Rattle.deal_finish.specs.declared.error.FinishError.TheVariants as finishes
+use Rattle.deal_follow.specs.declared.following.Course.{Course as Followed}
 use Rattle.bitml_deal.specs.Opens.{Answer}
 use Rattle.bitml_deal.specs.declared.secrets.Shown.{Shown}
 use Rattle.bitml_deal.specs.declared.secrets.Shown.TheVariants.{Refused, Taken}
@@ -40,19 +47,55 @@ finish_answer hash signatures secrets keys s l =
     (answers.signatures_in secp256k1 hash keys s signatures)
 
 -- what a command answers of a deal; one that reads none answers nothing here
-abbrev pub later_answer : (List ℕ → List ℕ) → DealCommand → List Text → Answer
-later_answer hash (commands.keys contract) texts = λ keys s. unread
-later_answer hash (commands.plan contract deal) texts = λ keys s. prints 0 (plan_text hash keys s)
-later_answer hash (commands.psbts contract deal) texts = λ keys s. prints 0 (psbts_text hash keys s)
-later_answer hash (commands.psbt contract deal which) texts =
+abbrev pub deal_later_answer : (List ℕ → List ℕ) → DealCommand → List Text → Answer
+deal_later_answer hash (commands.keys contract) texts = λ keys s. unread
+deal_later_answer hash (commands.plan contract deal) texts = λ keys s. prints 0 (plan_text hash keys s)
+deal_later_answer hash (commands.psbts contract deal) texts = λ keys s. prints 0 (psbts_text hash keys s)
+deal_later_answer hash (commands.psbt contract deal which) texts =
     of_transaction hash which (λ keys s l. prints 0 (psbt_line (unsigned_psbt hash l)))
-later_answer hash (commands.missing contract deal signatures) texts =
+deal_later_answer hash (commands.missing contract deal signatures) texts =
     of_signatures secp256k1 hash (λ keys s given. prints 0 (missing_text hash keys s given)) (text_at texts 2)
-later_answer hash (commands.held contract deal signatures) texts =
+deal_later_answer hash (commands.held contract deal signatures) texts =
     of_signatures secp256k1 hash (λ keys s given. prints 0 (held_text hash keys s given)) (text_at texts 2)
-later_answer hash (commands.finish contract deal which signatures) texts = of_transaction hash which (finish_answer hash (text_at texts 2) None)
-later_answer hash (commands.finish_with contract deal which signatures secrets) texts =
+deal_later_answer hash (commands.finish contract deal which signatures) texts = of_transaction hash which (finish_answer hash (text_at texts 2) None)
+deal_later_answer hash (commands.finish_with contract deal which signatures secrets) texts =
     of_transaction hash which (finish_answer hash (text_at texts 2) (Some (text_at texts 3)))
+
+-- the strings of a file of secrets, behind these messages; without one there are none
+abbrev pub told_by : (List ℕ → List ℕ) → Instance → List (List ℕ) → Option Text → SecretsRead
+told_by hash s messages None = shows []
+told_by hash s messages (Some text) = told_in hash s messages text
+
+-- where a deal stands, by these signatures and a file of secrets, or none
+abbrev pub given_answer : (List ℕ → List ℕ) → Keys → Instance → Course → ℕ → Option Text → List Signed → Printed
+given_answer hash keys s course tip secrets given =
+    with_secrets (λ strings. stood_answer hash keys s course tip given strings) (told_by hash s course.messages secrets)
+
+abbrev pub course_answer : (List ℕ → List ℕ) → Keys → Instance → Text → Option Text → Course → ℕ → Printed
+course_answer hash keys s signatures secrets course tip =
+    with_signatures (given_answer hash keys s course tip secrets) (answers.signatures_in secp256k1 hash keys s signatures)
+
+-- whether each string that a chain showed has as many bytes as a secret may have
+abbrev pub are_sized : Followed → Bool
+are_sized course = list_all (λ p. has_length (p.1)) course.standing.shown.items
+
+-- after the transactions of a chain file
+abbrev pub state_answer : (List ℕ → List ℕ) → Text → Text → Option Text → Answer
+state_answer hash chain signatures secrets keys s =
+    with_course (course_answer hash keys s signatures secrets) (follow_reading hash keys s (chain_in chain))
+
+-- whether a command reads a deal
+abbrev pub reads_deal : ChainCommand → Bool
+reads_deal (on_deal command) = reads_its_deal command
+reads_deal (chains.state contract deal chain signatures) = true
+reads_deal (chains.state_with contract deal chain signatures secrets) = true
+
+-- what a command answers of a deal
+abbrev pub later_answer : (List ℕ → List ℕ) → ChainCommand → List Text → Answer
+later_answer hash (on_deal command) texts = deal_later_answer hash command texts
+later_answer hash (chains.state contract deal chain signatures) texts = state_answer hash (text_at texts 2) (text_at texts 3) None
+later_answer hash (chains.state_with contract deal chain signatures secrets) texts =
+    state_answer hash (text_at texts 2) (text_at texts 3) (Some (text_at texts 4))
 
 -- the signatures that a file gives to these transactions
 abbrev pub given_in : List Transaction → Text → Result (List Signed) SignatureFault

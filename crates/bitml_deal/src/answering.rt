@@ -2,13 +2,12 @@
 
 ghost use Rattle.std.specs.Prelude.{◌≡◌, ◌≤◌, true, length, IfOk};
 ghost use Rattle.spec_tool.specs.Reads.{text_at};
-ghost use Rattle.spec_deal.specs.Answers.{deal_text_answer};
-ghost use Rattle.spec_deal.specs.Commands.{deal_files};
+ghost use Rattle.spec_chain.specs.Answers.{chain_text_answer};
+ghost use Rattle.spec_chain.specs.Commands.{chain_files};
 ghost use Rattle.spec_deal.specs.Verifier.{secp256k1};
 ghost use Rattle.spec_tool.specs.Replies.{printed};
 ghost use Rattle.deal_command.specs.Seen.{command};
-ghost use Rattle.theory_deal.specs.Causes.{reads_deal};
-ghost use Rattle.bitml_deal.specs.Later.{later_answer};
+ghost use Rattle.bitml_deal.specs.Later.{reads_deal, later_answer};
 ghost use Rattle.bitml_deal.specs.Opens.{answered, IsMade, HashedAll};
 
 use crate::finish::finish_reply;
@@ -17,13 +16,14 @@ use crate::opening::{Compiled, Opening, open};
 use crate::plan::plan_reply;
 use crate::psbt::{psbt_reply, psbts_reply};
 use crate::signatures::{held_reply, missing_reply};
+use crate::state::state_reply;
 use bm_hash::{Hash32, Trail};
 use deal_command::DealCommand;
 use spec_data::{Bytes, OutOfMemory};
 use spec_tool::Reply;
 use std::alloc::Global;
 
-// The file of signatures of a command.
+// The file of signatures of a command, or the chain file of one that reads a chain.
 fn third(texts: &[Option<Bytes>]) -> &Option<Bytes>
     requires { 3 ≤ length texts.now }
     ensures { result.now ≡ text_at texts.now 2 }
@@ -31,12 +31,20 @@ fn third(texts: &[Option<Bytes>]) -> &Option<Bytes>
     &texts[2]
 }
 
-// The file of secrets of a command.
+// The file of secrets of a command, or the file of signatures of one that reads a chain.
 fn fourth(texts: &[Option<Bytes>]) -> &Option<Bytes>
     requires { 4 ≤ length texts.now }
     ensures { result.now ≡ text_at texts.now 3 }
 {
     &texts[3]
+}
+
+// The file of secrets of a command that reads a chain.
+fn fifth(texts: &[Option<Bytes>]) -> &Option<Bytes>
+    requires { 5 ≤ length texts.now }
+    ensures { result.now ≡ text_at texts.now 4 }
+{
+    &texts[4]
 }
 
 // What a command replies to a deal that is taken, and to the texts of its further files.
@@ -47,7 +55,7 @@ fn compiled_reply<H: Hash32 + Drop>(
     compiled: &Compiled,
     texts: &[Option<Bytes>],
 ) -> Result<Reply, OutOfMemory>
-    requires count { length texts.now ≡ length (deal_files (command call.now)) }
+    requires count { length texts.now ≡ length (chain_files (command call.now)) }
     requires deal { reads_deal (command call.now) ≡ true }
     requires made { IsMade (H.digest_of trail.old.hasher) compiled.now }
     requires hashed { HashedAll (H.digest_of trail.old.hasher) trail.old.messages compiled.now }
@@ -69,6 +77,13 @@ fn compiled_reply<H: Hash32 + Drop>(
             let secrets = Some(fourth(texts));
             finish_reply(alloc, trail, compiled, which, third(texts), secrets)
         }
+        DealCommand::State(_, _, _, _) => {
+            state_reply(alloc, trail, compiled, third(texts), fourth(texts), None)
+        }
+        DealCommand::StateWith(_, _, _, _, _) => {
+            let secrets = Some(fifth(texts));
+            state_reply(alloc, trail, compiled, third(texts), fourth(texts), secrets)
+        }
     }
 }
 
@@ -79,9 +94,9 @@ fn deal_reply<H: Hash32 + Drop>(
     call: &DealCommand,
     texts: &[Option<Bytes>],
 ) -> Result<Reply, OutOfMemory>
-    requires count { length texts.now ≡ length (deal_files (command call.now)) }
+    requires count { length texts.now ≡ length (chain_files (command call.now)) }
     requires deal { reads_deal (command call.now) ≡ true }
-    ensures { IfOk result (λ reply. printed reply ≡ deal_text_answer secp256k1 (H.digest_of hash) (command call.now) texts.now) }
+    ensures { IfOk result (λ reply. printed reply ≡ chain_text_answer secp256k1 (H.digest_of hash) (command call.now) texts.now) }
 {
     let mut trail = Trail::new(alloc, hash);
     match open(alloc, &mut trail, texts)? {
@@ -97,8 +112,8 @@ pub(crate) fn text_reply<H: Hash32 + Drop>(
     call: &DealCommand,
     texts: &[Option<Bytes>],
 ) -> Result<Reply, OutOfMemory>
-    requires { length texts.now ≡ length (deal_files (command call.now)) }
-    ensures { IfOk result (λ reply. printed reply ≡ deal_text_answer secp256k1 (H.digest_of hash) (command call.now) texts.now) }
+    requires { length texts.now ≡ length (chain_files (command call.now)) }
+    ensures { IfOk result (λ reply. printed reply ≡ chain_text_answer secp256k1 (H.digest_of hash) (command call.now) texts.now) }
 {
     match call {
         DealCommand::Keys(_) => keys_texts(alloc, texts),

@@ -12,6 +12,7 @@ mod plan;
 mod psbt;
 mod secrets;
 mod signatures;
+mod state;
 mod tool;
 
 use bm_hash::Sha;

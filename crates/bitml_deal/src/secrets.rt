@@ -1,8 +1,9 @@
 //! The strings of a file of secrets.
 
-ghost use Rattle.std.specs.Prelude.{◌≡◌, Some, option_map, IfOk};
+ghost use Rattle.std.specs.Prelude.{◌≡◌, Some, None, option_map, IfOk};
 ghost use Rattle.spec_tool.specs.Commands.{prints};
-ghost use Rattle.spec_deal.specs.Answers as answers;
+ghost use Rattle.spec_chain.specs.Answers.{told_in};
+ghost use Rattle.bm_hash.specs.Messages.{evidence_of};
 ghost use Rattle.spec_deal.specs.RefusedText.{secrets_refused_line};
 ghost use Rattle.spec_deal.specs.Setting.{deal_keys, deal_instance};
 ghost use Rattle.spec_tool.specs.Replies.{printed};
@@ -43,9 +44,9 @@ fn secrets_of<H: Hash32 + Drop>(
     compiled: &Compiled,
     text: &[u8],
 ) -> Result<Shown, OutOfMemory>
-    requires { HashedAll (H.digest_of trail.old.hasher) trail.old.messages compiled.now }
-    ensures { let hash = H.digest_of trail.old.hasher in IfOk result (Tells (answers.secrets_in hash (deal_keys compiled.now.deal)
-        (deal_instance compiled.now.contract compiled.now.deal) (Some text.now))) }
+    requires { evidence_of (H.digest_of trail.old.hasher) trail.old.messages ≡ None }
+    ensures { let hash = H.digest_of trail.old.hasher in IfOk result (Tells (told_in hash
+        (deal_instance compiled.now.contract compiled.now.deal) trail.old.messages (Some text.now))) }
 {
     let hashes = compiled.deal.hashes.as_slice();
     match read_secrets(alloc, trail, &compiled.contract, hashes, text) {
@@ -63,9 +64,9 @@ fn secrets_in<H: Hash32 + Drop>(
     compiled: &Compiled,
     text: &Option<Bytes>,
 ) -> Result<Shown, OutOfMemory>
-    requires { HashedAll (H.digest_of trail.old.hasher) trail.old.messages compiled.now }
-    ensures { let hash = H.digest_of trail.old.hasher in IfOk result (Tells (answers.secrets_in hash (deal_keys compiled.now.deal)
-        (deal_instance compiled.now.contract compiled.now.deal) text.now)) }
+    requires { evidence_of (H.digest_of trail.old.hasher) trail.old.messages ≡ None }
+    ensures { let hash = H.digest_of trail.old.hasher in IfOk result (Tells (told_in hash
+        (deal_instance compiled.now.contract compiled.now.deal) trail.old.messages text.now)) }
 {
     match text {
         None => Ok(Shown::Refused(secrets_refused(alloc, SecretFault::Size)?)),
@@ -80,8 +81,11 @@ pub(crate) fn strings_in<H: Hash32 + Drop>(
     compiled: &Compiled,
     secrets: Option<&Option<Bytes>>,
 ) -> Result<Shown, OutOfMemory>
-    requires { HashedAll (H.digest_of trail.old.hasher) trail.old.messages compiled.now }
-    ensures { let hash = H.digest_of trail.old.hasher in IfOk result (Tells (later.strings_in hash (deal_keys compiled.now.deal)
+    requires { evidence_of (H.digest_of trail.old.hasher) trail.old.messages ≡ None }
+    ensures told { let hash = H.digest_of trail.old.hasher in IfOk result (Tells (later.told_by hash
+        (deal_instance compiled.now.contract compiled.now.deal) trail.old.messages (option_map (λ text. text.now) secrets.entry))) }
+    ensures first { let hash = H.digest_of trail.old.hasher in HashedAll hash trail.old.messages compiled.now
+        → IfOk result (Tells (later.strings_in hash (deal_keys compiled.now.deal)
         (deal_instance compiled.now.contract compiled.now.deal) (option_map (λ text. text.now) secrets.entry))) }
 {
     match secrets {

@@ -2,9 +2,9 @@
 
 ghost use Rattle.std.specs.Prelude.{◌≡◌, ℕ, List, length, Some, map, string_bytes, refl, is_some, true, option_map, IfOk, OnErr};
 ghost use Rattle.spec_tool.specs.Replies.{printed};
-ghost use Rattle.spec_deal.specs.Answers.{deal_read_answer};
-ghost use Rattle.spec_deal.specs.Commands.{deal_files, deal_command_of};
 ghost use Rattle.spec_deal.specs.Verifier.{secp256k1};
+ghost use Rattle.spec_chain.specs.Answers.{chain_read_answer};
+ghost use Rattle.spec_chain.specs.Commands.{chain_files, chain_command_of};
 ghost use Rattle.tool_shell.specs.Around.{around};
 ghost use Rattle.tool_shell.specs.Asked.{asked};
 ghost use Rattle.bitml_deal.specs.Dealt.{seen, Headline};
@@ -16,6 +16,12 @@ use deal_command::{DealCommand, command_of, files_of};
 use spec_data::{Bytes, OutOfMemory};
 use spec_tool::Reply;
 use std::alloc::Global;
+use theory_chain::{
+    accepted_exactly, aside_anywhere, bad_exactly, cannot_is_refused, chains_are_refused,
+    chains_are_spelled, followed_exactly, not_asked_is_spent, own_is_accepted, refused_exactly,
+    requirements_in_order, revealed_exactly, revealed_once, secrets_exactly, waits_exactly,
+    what_can_goes_on,
+};
 use theory_deal::{
     deal_files_are_read, deal_statuses_have_causes, deals_are_sized, deals_ask, deals_give_all,
     deals_hash, false_without_one, files_for_signers, finish_answers, finish_theorem,
@@ -23,6 +29,7 @@ use theory_deal::{
     plan_of_runs, secret_files_are_read, signature_files_are_read, signatures_verify,
 };
 use theory_script::any_keys::script_theorem;
+use theory_state::{chain_statuses_have_causes, state_answers};
 use tool_shell::{Call, serve};
 
 /// A command on a deal, as it is served.
@@ -34,14 +41,14 @@ pub(crate) struct DealCall<'a> {
 impl Call for DealCall<'_> {
     ghost is_served = { λ call. Unit {0} };
 
-    ghost asks = { λ call. deal_files (seen call) };
+    ghost asks = { λ call. chain_files (seen call) };
 
-    ghost answers = { λ hash call. deal_read_answer secp256k1 hash (seen call) };
+    ghost answers = { λ hash call. chain_read_answer secp256k1 hash (seen call) };
 
     ghost unread = { λ hash call. refl };
 
     fn files(&self, alloc: Global) -> Result<Vec<(&str, usize)>, OutOfMemory>
-        ensures { IfOk result (λ v. map asked v.items ≡ deal_files (seen self.now)) }
+        ensures { IfOk result (λ v. map asked v.items ≡ chain_files (seen self.now)) }
     {
         files_of(alloc, &self.command)
     }
@@ -52,9 +59,9 @@ impl Call for DealCall<'_> {
         hash: H,
         texts: &[Option<Bytes>],
     ) -> Result<Reply, OutOfMemory>
-        requires count { length texts.now ≡ length (deal_files (seen self.now)) }
+        requires count { length texts.now ≡ length (chain_files (seen self.now)) }
         ensures { IfOk result (λ reply. printed reply
-            ≡ deal_read_answer secp256k1 (H.digest_of hash) (seen self.now) (Some texts.now)) }
+            ≡ chain_read_answer secp256k1 (H.digest_of hash) (seen self.now) (Some texts.now)) }
     {
         text_reply(alloc, hash, &self.command, texts)
     }
@@ -62,8 +69,8 @@ impl Call for DealCall<'_> {
 
 /// The command that words are, if they are one. Of words that are none no memory is asked.
 fn call_of(alloc: Global, words: &[String]) -> Result<Option<DealCall<'_>>, OutOfMemory>
-    ensures command { IfOk result (λ call. option_map seen call ≡ deal_command_of (map string_bytes words.now)) }
-    ensures memory { OnErr result (is_some (deal_command_of (map string_bytes words.now)) ≡ true) }
+    ensures command { IfOk result (λ call. option_map seen call ≡ chain_command_of (map string_bytes words.now)) }
+    ensures memory { OnErr result (is_some (chain_command_of (map string_bytes words.now)) ≡ true) }
 {
     match command_of(alloc, words)? {
         None => Ok(None),
@@ -73,7 +80,8 @@ fn call_of(alloc: Global, words: &[String]) -> Result<Option<DealCall<'_>>, OutO
 
 /// Runs the command that words are: reads its files, writes its text, and answers its status. Each status comes by its cause, and what is
 /// written of a deal that is taken is as the theorems on deals say, for ECDSA over secp256k1: its signatures verify, and a transaction that
-/// it finishes is accepted by each ledger on which what it spends is live, from its lock on.
+/// it finishes is accepted by each ledger on which what it spends is live, from its lock on. Where a deal stands after a chain is shown as
+/// a legal run of the calculus, with what can come next, and what never does.
 pub fn deal_tool<H: Hash32 + Drop, F: Files, S: Sink>(
     alloc: Global,
     words: &[String],
@@ -81,12 +89,13 @@ pub fn deal_tool<H: Hash32 + Drop, F: Files, S: Sink>(
     files: &mut F,
     out: &mut S,
 ) -> u8
-    ensures { Headline (H.digest_of hash) (deal_command_of (map string_bytes words.now))
+    ensures { Headline (H.digest_of hash) (chain_command_of (map string_bytes words.now))
         (around (F.told files.old) (F.log files.old) (F.taken files.old) (F.faults files.old) (S.pieces out.old) (S.faults out.old))
         (around (F.told files.new) (F.log files.new) (F.taken files.new) (F.faults files.new) (S.pieces out.new) (S.faults out.new)) result }
 {
     hashes_bytes(&hash);
     deal_statuses_have_causes();
+    chain_statuses_have_causes();
     deals_give_all();
     deals_are_sized();
     keys_are_points();
@@ -105,6 +114,23 @@ pub fn deal_tool<H: Hash32 + Drop, F: Files, S: Sink>(
     finishes_exactly();
     finish_theorem();
     finish_answers();
+    state_answers();
+    chains_are_spelled();
+    chains_are_refused();
+    followed_exactly();
+    refused_exactly();
+    bad_exactly();
+    own_is_accepted();
+    secrets_exactly();
+    revealed_exactly();
+    revealed_once();
+    aside_anywhere();
+    requirements_in_order();
+    waits_exactly();
+    accepted_exactly();
+    cannot_is_refused();
+    not_asked_is_spent();
+    what_can_goes_on();
     script_theorem();
     false_without_one();
     serve(alloc, hash, call_of(alloc, words), files, out)

@@ -2,7 +2,8 @@
 
 use spec_tool::Which;
 
-/// What a call is asked for. Files go by the words that name them: a contract, its deal file, a file of signatures, one of secrets.
+/// What a call is asked for. Files go by the words that name them: a contract, its deal file, a chain file, a file of signatures,
+/// one of secrets.
 #[derive(Drop)]
 pub enum DealCommand<'a> {
     /// Prints which lines a deal file needs.
@@ -21,4 +22,8 @@ pub enum DealCommand<'a> {
     Finish(&'a str, &'a str, Which, &'a str),
     /// Prints one that may reveal secrets.
     FinishWith(&'a str, &'a str, Which, &'a str, &'a str),
+    /// Prints where a deal stands.
+    State(&'a str, &'a str, &'a str, &'a str),
+    /// Prints it with secrets that the chain doesn't show.
+    StateWith(&'a str, &'a str, &'a str, &'a str, &'a str),
 }

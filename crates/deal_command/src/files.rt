@@ -1,7 +1,7 @@
 //! The files that a command reads.
 
 ghost use Rattle.std.specs.Prelude.{◌≡◌, map, IfOk};
-ghost use Rattle.spec_deal.specs.Commands as spec;
+ghost use Rattle.spec_chain.specs.Commands as spec;
 ghost use Rattle.tool_shell.specs.Asked.{asked};
 ghost use Rattle.deal_command.specs.Seen.{command};
 
@@ -11,6 +11,9 @@ use std::alloc::Global;
 
 /// The most bytes of a deal file.
 const MOST_DEAL_BYTES: usize = 8_388_608;
+
+/// The most bytes of a chain file.
+const MOST_CHAIN_BYTES: usize = 8_388_608;
 
 /// The most bytes of a file of signatures.
 const MOST_SIGNATURE_BYTES: usize = 8_388_608;
@@ -33,7 +36,7 @@ pub fn files_of<'a>(
     alloc: Global,
     call: &DealCommand<'a>,
 ) -> Result<Vec<(&'a str, usize)>, OutOfMemory>
-    ensures { IfOk result (λ v. map asked v.items ≡ spec.deal_files (command call.now)) }
+    ensures { IfOk result (λ v. map asked v.items ≡ spec.chain_files (command call.now)) }
 {
     match call {
         DealCommand::Keys(contract) => list_of(alloc, &[(contract, MOST_TEXT_BYTES)]),
@@ -63,6 +66,29 @@ pub fn files_of<'a>(
                 &[
                     (contract, MOST_TEXT_BYTES),
                     (deal, MOST_DEAL_BYTES),
+                    (signatures, MOST_SIGNATURE_BYTES),
+                    (secrets, MOST_SECRETS_BYTES),
+                ],
+            )
+        }
+        DealCommand::State(contract, deal, chain, signatures) => {
+            list_of(
+                alloc,
+                &[
+                    (contract, MOST_TEXT_BYTES),
+                    (deal, MOST_DEAL_BYTES),
+                    (chain, MOST_CHAIN_BYTES),
+                    (signatures, MOST_SIGNATURE_BYTES),
+                ],
+            )
+        }
+        DealCommand::StateWith(contract, deal, chain, signatures, secrets) => {
+            list_of(
+                alloc,
+                &[
+                    (contract, MOST_TEXT_BYTES),
+                    (deal, MOST_DEAL_BYTES),
+                    (chain, MOST_CHAIN_BYTES),
                     (signatures, MOST_SIGNATURE_BYTES),
                     (secrets, MOST_SECRETS_BYTES),
                 ],

@@ -2,6 +2,8 @@
 
 ghost use Rattle.std.specs.Prelude.{◌≡◌, true, is_some, map, string_bytes, option_map, IfOk, OnErr};
 ghost use Rattle.spec_deal.specs.Commands as spec;
+ghost use Rattle.spec_chain.specs.Commands as chains;
+ghost use Rattle.spec_chain.specs.Commands.{on_deal};
 ghost use Rattle.deal_command.specs.Seen.{command};
 
 use crate::command::DealCommand;
@@ -10,7 +12,7 @@ use std::alloc::Global;
 use tool_which::which_of;
 
 fn keys_words(words: &[String]) -> Option<DealCommand<'_>>
-    ensures { option_map command result ≡ spec.keys_words (map string_bytes words.now) }
+    ensures { option_map command result ≡ option_map on_deal (spec.keys_words (map string_bytes words.now)) }
 {
     match words {
         [contract] => Some(DealCommand::Keys(contract.as_str())),
@@ -19,7 +21,7 @@ fn keys_words(words: &[String]) -> Option<DealCommand<'_>>
 }
 
 fn plan_words(words: &[String]) -> Option<DealCommand<'_>>
-    ensures { option_map command result ≡ spec.plan_words (map string_bytes words.now) }
+    ensures { option_map command result ≡ option_map on_deal (spec.plan_words (map string_bytes words.now)) }
 {
     match words {
         [contract, deal] => Some(DealCommand::Plan(contract.as_str(), deal.as_str())),
@@ -28,7 +30,7 @@ fn plan_words(words: &[String]) -> Option<DealCommand<'_>>
 }
 
 fn psbt_words(alloc: Global, words: &[String]) -> Result<Option<DealCommand<'_>>, OutOfMemory>
-    ensures command { IfOk result (λ c. option_map command c ≡ spec.psbt_words (map string_bytes words.now)) }
+    ensures command { IfOk result (λ c. option_map command c ≡ option_map on_deal (spec.psbt_words (map string_bytes words.now))) }
     ensures memory { OnErr result (is_some (spec.psbt_words (map string_bytes words.now)) ≡ true) }
 {
     match words {
@@ -42,7 +44,7 @@ fn psbt_words(alloc: Global, words: &[String]) -> Result<Option<DealCommand<'_>>
 }
 
 fn missing_words(words: &[String]) -> Option<DealCommand<'_>>
-    ensures { option_map command result ≡ spec.missing_words (map string_bytes words.now) }
+    ensures { option_map command result ≡ option_map on_deal (spec.missing_words (map string_bytes words.now)) }
 {
     match words {
         [contract, deal, signatures] => {
@@ -53,7 +55,7 @@ fn missing_words(words: &[String]) -> Option<DealCommand<'_>>
 }
 
 fn held_words(words: &[String]) -> Option<DealCommand<'_>>
-    ensures { option_map command result ≡ spec.held_words (map string_bytes words.now) }
+    ensures { option_map command result ≡ option_map on_deal (spec.held_words (map string_bytes words.now)) }
 {
     match words {
         [contract, deal, signatures] => {
@@ -64,7 +66,7 @@ fn held_words(words: &[String]) -> Option<DealCommand<'_>>
 }
 
 fn finish_words(alloc: Global, words: &[String]) -> Result<Option<DealCommand<'_>>, OutOfMemory>
-    ensures command { IfOk result (λ c. option_map command c ≡ spec.finish_words (map string_bytes words.now)) }
+    ensures command { IfOk result (λ c. option_map command c ≡ option_map on_deal (spec.finish_words (map string_bytes words.now))) }
     ensures memory { OnErr result (is_some (spec.finish_words (map string_bytes words.now)) ≡ true) }
 {
     match words {
@@ -91,10 +93,31 @@ fn finish_words(alloc: Global, words: &[String]) -> Result<Option<DealCommand<'_
     }
 }
 
+fn state_words(words: &[String]) -> Option<DealCommand<'_>>
+    ensures { option_map command result ≡ chains.state_words (map string_bytes words.now) }
+{
+    match words {
+        [contract, deal, chain, signatures] => Some(DealCommand::State(
+            contract.as_str(),
+            deal.as_str(),
+            chain.as_str(),
+            signatures.as_str(),
+        )),
+        [contract, deal, chain, signatures, secrets] => Some(DealCommand::StateWith(
+            contract.as_str(),
+            deal.as_str(),
+            chain.as_str(),
+            signatures.as_str(),
+            secrets.as_str(),
+        )),
+        _ => None,
+    }
+}
+
 /// The command that words are, if they are one. Of words that are none no memory is asked.
 pub fn command_of(alloc: Global, words: &[String]) -> Result<Option<DealCommand<'_>>, OutOfMemory>
-    ensures command { IfOk result (λ c. option_map command c ≡ spec.deal_command_of (map string_bytes words.now)) }
-    ensures memory { OnErr result (is_some (spec.deal_command_of (map string_bytes words.now)) ≡ true) }
+    ensures command { IfOk result (λ c. option_map command c ≡ chains.chain_command_of (map string_bytes words.now)) }
+    ensures memory { OnErr result (is_some (chains.chain_command_of (map string_bytes words.now)) ≡ true) }
 {
     let [word, rest @ ..] = words else {
         return Ok(None);
@@ -106,6 +129,7 @@ pub fn command_of(alloc: Global, words: &[String]) -> Result<Option<DealCommand<
         "missing" => Ok(missing_words(rest)),
         "held" => Ok(held_words(rest)),
         "finish" => finish_words(alloc, rest),
+        "state" => Ok(state_words(rest)),
         _ => Ok(None),
     }
 }

@@ -35,7 +35,7 @@ fn bounded_at<'a>(checked: &'a Checked, path: &Path) -> Option<&'a Guarded>
 }
 
 /// The branch of a transaction; the initial one has none.
-pub(crate) fn branch_of<'a>(checked: &'a Checked, which: &Which) -> Option<&'a Guarded>
+pub fn branch_of<'a>(checked: &'a Checked, which: &Which) -> Option<&'a Guarded>
     ensures branch { option_map (λ b. guarded b.now) result ≡ spec.branch_of checked.now which.now }
     ensures bounded { IfSome result (λ b. is_bounded (test_of (core_of (guarded b.now))) ≡ true) }
 {

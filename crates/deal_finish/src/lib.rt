@@ -12,6 +12,8 @@ mod secrets;
 mod signatures;
 mod witnesses;
 
+pub use branches::branch_of;
 pub use error::FinishError;
 pub use finishing::finish;
 pub use refusals::put_finish_refused;
+pub use secrets::do_fit;

@@ -117,11 +117,7 @@ fn fits_of(
 }
 
 /// Whether a branch reveals no secrets, or its predicate is true of them.
-pub(crate) fn do_fit(
-    alloc: Global,
-    strings: &Strings,
-    branch: &Guarded,
-) -> Result<bool, OutOfMemory>
+pub fn do_fit(alloc: Global, strings: &Strings, branch: &Guarded) -> Result<bool, OutOfMemory>
     requires { is_bounded (terms.test_of (core_of (guarded branch.now))) ≡ true }
     ensures { IfOk result (λ b. b ≡ fits_by strings.now (terms.reveals_of (core_of (guarded branch.now)))
         (terms.test_of (core_of (guarded branch.now)))) }

@@ -79,7 +79,7 @@ module _ (hash : List ℕ → List ℕ) (keys : Keys) where
   all_required s = all_listed s.advert (listed hash keys s)
 
   module _ (given : List Signed) where
-    has_is : (slot : Slot) → has hash keys given slot ≡ is_there given (requirement_of slot)
+    pub has_is : (slot : Slot) → has hash keys given slot ≡ is_there given (requirement_of slot)
     has_is slot =
         any_found (known.is_for hash keys slot) given
         ∙ some_map (λ (g : Signed). g.signature) (find (known.is_for hash keys slot) given)

@@ -18,7 +18,9 @@ use Rattle.spec_compiler.specs.Keyed.Instance.{Instance}
 use Rattle.spec_deal.specs.declared.entry.Shown.{Shown}
 use Rattle.spec_deal.specs.declared.fault.SecretReason.TheVariants as reasons
 use Rattle.spec_deal.specs.declared.fault.SecretFault.TheVariants as faults
-use Rattle.spec_deal.specs.SecretFile.{Line, empty, bad, collides, gives, has_length, hashed_line, if_new, with_bytes, named_line, line_says, read_lines, SecretsRead, refused, collided}
+use Rattle.spec_deal.specs.SecretFile.{Line, empty, bad, collides, gives, has_length, hashed_line, if_new, with_bytes, named_line}
+use Rattle.spec_deal.specs.SecretFile.{secret_line, line_says, read_lines, SecretsRead, refused, collided}
+use Rattle.deal_secrets.specs.Gives.{Added, reads_over}
 
 given_some : (b : Bool) (word name : List ℕ) → given b word ≡ Some name → (b ≡ true) × (name ≡ word)
 given_some true word name e = (refl, cc)
@@ -76,6 +78,18 @@ module _ (hash : List ℕ → List ℕ) (s : Instance) (messages : List (List �
   pub named_none : one_of names name ≡ None → named_line hash s messages taken n name word ≡ bad reasons.Foreign
   named_none e = by_names ∙ ap says (given_none (is_among name names) name e)
 
+-- ---- lines that are read over
+
+module _ (hash : List ℕ → List ℕ) (s : Instance) (messages : List (List ℕ)) (taken : List Shown) (n : ℕ) where
+  pub says_nothing : (words : List (List ℕ)) → reads_over words ≡ true → line_says hash s messages taken n words ≡ empty
+  says_nothing [] e = refl
+  says_nothing (word ∷ words) e = ap (λ b. if b then empty else secret_line hash s messages taken n (word ∷ words)) e
+
+  pub says_other : (words : List (List ℕ)) → reads_over words ≡ false
+      → line_says hash s messages taken n words ≡ secret_line hash s messages taken n words
+  says_other [] e = cc
+  says_other (word ∷ words) e = ap (λ b. if b then empty else secret_line hash s messages taken n (word ∷ words)) e
+
 -- ---- lines one after another
 
 module _ (hash : List ℕ → List ℕ) (s : Instance) (messages : List (List ℕ)) (taken : List Shown) (n : ℕ) (lines rest : List (List ℕ))
@@ -91,3 +105,19 @@ module _ (hash : List ℕ → List ℕ) (s : Instance) (messages : List (List �
   pub at_line_says : (says : Line) → line_says hash s messages taken n (words_of line) ≡ says
       → read_lines hash s messages taken n lines ≡ goes_on says
   at_line_says says e = ap (read_lines hash s messages taken n) here ∙ ap goes_on e
+
+-- a line that is taken
+pub took : (hash : List ℕ → List ℕ) (s : Instance) (messages : List (List ℕ)) (taken : List Shown) (n : ℕ) (lines rest : List (List ℕ))
+    (line : List ℕ) → lines ≡ line ∷ rest → (more : List (List ℕ)) (new : List Shown)
+    → Added messages more taken new (line_says hash s messages taken n (words_of line))
+    → read_lines hash s more new (n + 1) rest ≡ read_lines hash s messages taken n lines
+took hash s messages taken n lines rest line here more new h = by_says (line_says hash s messages taken n (words_of line)) refl h
+  where
+    by_says : (says : Line) → line_says hash s messages taken n (words_of line) ≡ says → Added messages more taken new says
+        → read_lines hash s more new (n + 1) rest ≡ read_lines hash s messages taken n lines
+    by_says empty e k =
+        (λ i. read_lines hash s (k.0 i) (k.1 i) (n + 1) rest) ∙ sym (at_line_says hash s messages taken n lines rest line here empty e)
+    by_says (gives shown) e k =
+        (λ i. read_lines hash s (k.0 i) (k.1 i) (n + 1) rest) ∙ sym (at_line_says hash s messages taken n lines rest line here (gives shown) e)
+    by_says (bad reason) e k = absurd k
+    by_says (collides earlier later) e k = absurd k

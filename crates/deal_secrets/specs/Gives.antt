@@ -1,13 +1,14 @@
 -- What the readers of files of secrets answer, against what reading gives.
-use Rattle.std.specs.Prelude.{◌≡◌, ℕ, List, [], ◌∷◌, ◌++◌, IsSome, Option, Some, None, Result, Ok, Err}
+use Rattle.std.specs.Prelude.{◌≡◌, ℕ, List, [], ◌∷◌, ◌++◌, IsSome, Bool, true, Option, Some, None, Result, Ok, Err}
 use Rattle.std.specs.List.{find}
 use Rattle.std.specs.Str.{bytes_eq}
+use Rattle.spec_data.specs.Lists.{is_among}
 use Rattle.spec_data.specs.Messages.{noted, collision_with}
 use Rattle.spec_compiler.specs.Keyed.Instance.{Instance}
 use Rattle.bm_hash.specs.Messages.{evidence_of}
 use Rattle.spec_deal.specs.declared.entry.Shown.{Shown}
 use Rattle.spec_deal.specs.declared.fault.SecretFault.TheVariants as faults
-use Rattle.spec_deal.specs.SecretFile.{Line, empty, bad, collides, gives, if_new, SecretsRead, shows, refused, collided}
+use Rattle.spec_deal.specs.SecretFile.{Line, empty, bad, collides, gives, if_new, state_words, SecretsRead, shows, refused, collided}
 use Rattle.deal_secrets.specs.declared.error.LineError.{LineError}
 use Rattle.deal_secrets.specs.declared.error.LineError.TheVariants as lines
 use Rattle.deal_secrets.specs.declared.error.SecretsError.{SecretsError}
@@ -27,6 +28,11 @@ abbrev pub Stops : Evidence → LineError → Line → Type 0
 Stops evidence (lines.Bad reason) line = line ≡ bad reason
 Stops evidence lines.Collided line = Collides evidence line
 Stops evidence lines.Memory line = Unit {0}
+
+-- whether words say nothing of secrets: there are none, or the first is of a text that says where a deal stands
+abbrev pub reads_over : List (List ℕ) → Bool
+reads_over [] = true
+reads_over (word ∷ words) = is_among word state_words
 
 -- what the code says that a line gives, that it gives, if it is new behind these strings
 abbrev pub Leads : (List ℕ → List ℕ) → Instance → List (List ℕ) → List Shown → Result Shown LineError → Line → Type 0

@@ -12,4 +12,4 @@ mod strings;
 pub use error::SecretsError;
 pub use reading::read_secrets;
 pub use refusals::put_secrets_refused;
-pub use strings::Strings;
+pub use strings::{Strings, known};

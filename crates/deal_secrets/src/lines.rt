@@ -4,6 +4,7 @@ ghost use Rattle.std.specs.Prelude.{◌≡◌, ◌∷◌, [], ℕ, List, None, m
 ghost use Rattle.std.specs.List.{find};
 ghost use Rattle.std.specs.Str.{bytes_eq};
 ghost use Rattle.spec_data.specs.Digits as digits;
+ghost use Rattle.spec_data.specs.Lists.{is_among};
 ghost use Rattle.spec_data.specs.Messages.{collision_with};
 ghost use Rattle.spec_text.specs.Lines.{words_of};
 ghost use Rattle.spec_text.specs.Words.{one_of};
@@ -12,11 +13,11 @@ ghost use Rattle.spec_deal.specs.declared.entry.Shown.{Shown as Told};
 ghost use Rattle.spec_deal.specs.Needed.{needed_secrets};
 ghost use Rattle.spec_deal.specs.SecretFile as spec;
 ghost use Rattle.bm_hash.specs.Messages.{evidence_of};
-ghost use Rattle.deal_secrets.specs.Gives.{Leads, LeadsOn, IsHashed, Takes};
+ghost use Rattle.deal_secrets.specs.Gives.{Leads, LeadsOn, IsHashed, Takes, reads_over};
 
 use crate::error::LineError;
 use crate::required::{is_hash_of, secret_named};
-use crate::strings::Strings;
+use crate::strings::{Strings, has_length};
 use bm_hash::{Hash32, Trail, TrailError};
 use bm_runfile::words_of;
 use bm_text::{HexError, read_hex};
@@ -24,19 +25,6 @@ use bm_wellformed::Checked;
 use spec_data::{Bytes, Name};
 use spec_deal::{SecretReason, Shown};
 use std::alloc::Global;
-
-// The fewest bytes of a secret.
-const LEAST_BYTES: usize = 16;
-
-// The most bytes of an item of a witness.
-const MOST_BYTES: usize = 520;
-
-// Whether a string has as many bytes as a secret may have.
-fn has_length(bytes: &[u8]) -> bool
-    ensures { result ≡ spec.has_length bytes.now }
-{
-    LEAST_BYTES <= bytes.len() && bytes.len() <= MOST_BYTES
-}
 
 // The string that a word gives to a secret.
 fn shown_by(alloc: Global, line: u32, name: Name, word: &[u8]) -> Result<Shown, LineError>
@@ -78,7 +66,56 @@ fn named(
     }
 }
 
-// What a line gives, if it has words.
+// What the words of a line give.
+fn secret_line(
+    alloc: Global,
+    checked: &Checked,
+    line: u32,
+    words: &[&[u8]],
+) -> Result<Shown, LineError>
+    ensures { (hash : List ℕ → List ℕ) (s : Instance) (messages : List (List ℕ)) (taken : List Told) → s.advert ≡ checked.now
+        → Leads hash s messages taken result (spec.secret_line hash s messages taken line (map (λ w. w.now) words.now)) }
+{
+    match words {
+        [first, name, word] => {
+            if *first == b"secret".as_slice() {
+                named(alloc, checked, line, name, word)
+            } else {
+                Err(LineError::Bad(SecretReason::Form))
+            }
+        }
+        _ => Err(LineError::Bad(SecretReason::Form)),
+    }
+}
+
+// Whether a word begins a line, other than that of a secret, of a text that says where a deal stands.
+fn is_of_state(word: &[u8]) -> bool
+    ensures { result ≡ is_among word.now spec.state_words }
+{
+    b"confirmed".as_slice() == word
+        || b"step".as_slice() == word
+        || b"gone".as_slice() == word
+        || b"live".as_slice() == word
+        || b"paid".as_slice() == word
+        || b"height".as_slice() == word
+        || b"can".as_slice() == word
+        || b"cannot".as_slice() == word
+        || b"needs".as_slice() == word
+        || b"never:".as_slice() == word
+        || b"waits".as_slice() == word
+}
+
+// Whether these words of a line say nothing of secrets: there are none, or they are of such a line.
+fn is_read_over(words: &[&[u8]]) -> bool
+    ensures { result ≡ reads_over (map (λ w. w.now) words.now) }
+{
+    match words {
+        [] => true,
+        [first, ..] => is_of_state(first),
+    }
+}
+
+// What a line gives, if it isn't read over.
 fn shown_of(
     alloc: Global,
     checked: &Checked,
@@ -88,16 +125,12 @@ fn shown_of(
     ensures { (hash : List ℕ → List ℕ) (s : Instance) (messages : List (List ℕ)) (taken : List Told) → s.advert ≡ checked.now
         → LeadsOn hash s messages taken result (spec.line_says hash s messages taken line (map (λ w. w.now) words.now)) }
 {
-    match words {
-        [] => Ok(None),
-        [first, name, word] => {
-            if *first == b"secret".as_slice() {
-                Ok(Some(named(alloc, checked, line, name, word)?))
-            } else {
-                Err(LineError::Bad(SecretReason::Form))
-            }
-        }
-        _ => Err(LineError::Bad(SecretReason::Form)),
+    if is_read_over(words) {
+        return Ok(None);
+    }
+    match secret_line(alloc, checked, line, words) {
+        Ok(shown) => Ok(Some(shown)),
+        Err(error) => Err(error),
     }
 }
 

@@ -74,6 +74,9 @@ pub fn read_secrets<H: Hash32 + Drop>(
 ) -> Result<Strings, SecretsError>
     requires clear { evidence_of (H.digest_of trail.old.hasher) trail.old.messages ≡ None }
     ensures hasher { trail.new.hasher ≡ trail.old.hasher }
+    ensures behind { let hash = H.digest_of trail.old.hasher in
+        (s : Instance) → s.advert ≡ checked.now → s.hashes ≡ hashes.now
+        → Gives (evidence_of hash trail.new.messages) result (spec.read_behind hash s trail.old.messages text.now) }
     ensures gives { let hash = H.digest_of trail.old.hasher in
         (keys : Keys) (s : Instance) → s.advert ≡ checked.now → s.hashes ≡ hashes.now
         → Hashed hash [] trail.old.messages (deal_strings hash keys s)

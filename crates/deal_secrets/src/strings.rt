@@ -1,18 +1,24 @@
 //! The strings that were given to secrets.
 
-ghost use Rattle.std.specs.Prelude.{◌≡◌, ◌≤◌, ◌++◌, ◌∷◌, [], length, option_map, true, IfSome, OnOk, OnErr};
-ghost use Rattle.std.specs.List.{find};
+ghost use Rattle.std.specs.Prelude.{◌≡◌, ◌≤◌, ◌++◌, ◌∷◌, [], length, map, option_map, true, IfOk, IfSome, OnOk, OnErr};
+ghost use Rattle.std.specs.List.{find, list_all};
 ghost use Rattle.std.specs.Str.{bytes_eq};
 ghost use Rattle.spec_data.specs.Ranges.{most_item_bytes};
 ghost use Rattle.spec_deal.specs.SecretFile.{has_length, string_for};
 ghost use Rattle.spec_deal.specs.declared.entry.Shown.{Shown as Told};
-ghost use Rattle.deal_secrets.specs.Seen.{shown_in};
+ghost use Rattle.deal_secrets.specs.Seen.{shown_in, shown_by};
 
 use deal_index::{Indexed, Keyed};
 use spec_data::{Bytes, Name, OutOfMemory};
 use spec_deal::Shown;
 use std::alloc::Global;
 use std::marker::Model;
+
+// The fewest bytes of a secret.
+const LEAST_BYTES: usize = 16;
+
+// The most bytes of an item of a witness.
+const MOST_BYTES: usize = 520;
 
 /// A string, found by the name of its secret.
 pub(crate) struct Entry {
@@ -109,4 +115,72 @@ impl Strings {
         let key = Vec::from_slice(alloc, shown.name.bytes())?;
         self.entries.push(Entry { shown }, key)
     }
+}
+
+// Whether a string has as many bytes as a secret may have.
+pub(crate) fn has_length(bytes: &[u8]) -> bool
+    ensures { result ≡ has_length bytes.now }
+{
+    LEAST_BYTES <= bytes.len() && bytes.len() <= MOST_BYTES
+}
+
+// What is known of all that were given: each has as many bytes as a secret may have.
+fn are_sized(entries: &Indexed<Entry>)
+    ensures { list_all (λ e. has_length e.shown.bytes) entries.now ≡ true }
+{
+    let _ = entries.find(b"");
+}
+
+// One string more.
+fn add(
+    alloc: Global,
+    all: &mut Strings,
+    line: u32,
+    name: Name,
+    bytes: &Bytes,
+) -> Result<(), OutOfMemory>
+    requires { has_length bytes.now ≡ true }
+    ensures { OnOk result (all.new ≡ all.old ++ record { line = line; name = name; bytes = bytes.now } ∷ []) }
+{
+    let bytes = bytes.copy(alloc)?;
+    all.push(alloc, Shown { line, name, bytes })
+}
+
+// All of these strings more.
+fn add_all(alloc: Global, all: &mut Strings, given: &[Entry]) -> Result<(), OutOfMemory>
+    requires { list_all (λ e. has_length e.shown.bytes) given.now ≡ true }
+    ensures { OnOk result (all.new ≡ all.old ++ map shown_in given.now) }
+{
+    for entry in given {
+        let shown = &entry.shown;
+        add(alloc, all, shown.line, shown.name, &shown.bytes)?;
+    }
+    Ok(())
+}
+
+// These strings, which no line gives.
+fn shown_alone(alloc: Global, shown: &[(Name, Bytes)]) -> Result<Strings, OutOfMemory>
+    requires { list_all (λ p. has_length p.1) shown.now ≡ true }
+    ensures { IfOk result (λ all. all ≡ map shown_by shown.now) }
+{
+    let mut all = Strings::new(alloc);
+    for (name, bytes) in shown {
+        add(alloc, &mut all, 0, *name, bytes)?;
+    }
+    Ok(all)
+}
+
+/// These strings, which no line gives, and behind them those that were given. Each has as many bytes as a secret may have.
+pub fn known(
+    alloc: Global,
+    shown: &[(Name, Bytes)],
+    given: &Strings,
+) -> Result<Strings, OutOfMemory>
+    requires { list_all (λ p. has_length p.1) shown.now ≡ true }
+    ensures { IfOk result (λ all. all ≡ map shown_by shown.now ++ given.now) }
+{
+    are_sized(&given.entries);
+    let mut all = shown_alone(alloc, shown)?;
+    add_all(alloc, &mut all, given.entries.as_slice())?;
+    Ok(all)
 }

@@ -1,7 +1,7 @@
 use Rattle.std.proofs.Common.{refl}
-use Rattle.spec_deal.specs.Answers.{deal_read_answer, deal_answer}
-use Rattle.spec_deal.specs.Commands.{deal_files}
 use Rattle.spec_deal.specs.Verifier.{secp256k1}
+use Rattle.spec_chain.specs.Answers.{chain_read_answer, chain_answer}
+use Rattle.spec_chain.specs.Commands.{chain_files}
 use Rattle.tool_shell.proofs.Seen.{seen as seen_as}
 use Rattle.bitml_deal.specs.Dealt.{seen}
 use Rattle.bitml_deal.proofs.Headlines.{headline_of}
@@ -10,7 +10,8 @@ use Rattle.bitml_deal.proofs.tool.deal_tool.Goals as goal
 pub returns : goal.returns
 returns g c =
     headline_of (record {
-      causes = c.deal_statuses_have_causes.ensures;
+      deal_causes = c.deal_statuses_have_causes.ensures;
+      causes = c.chain_statuses_have_causes.ensures;
       gives_all = c.deals_give_all.ensures;
       sized = c.deals_are_sized.ensures;
       points = c.keys_are_points.ensures;
@@ -25,15 +26,36 @@ returns g c =
         deals = c.deal_files_are_read.ensures;
         signatures = c.signature_files_are_read.ensures;
         secrets = c.secret_files_are_read.ensures;
+        chains = c.chains_are_spelled.ensures;
+        bad_chains = c.chains_are_refused.ensures;
       };
       lists = c.missing_and_held.ensures;
       starts = c.may_start.ensures;
       exactly = c.finishes_exactly.ensures;
       finished = c.finish_theorem.ensures;
       answers = c.finish_answers.ensures;
+      stands = c.state_answers.ensures;
+      follows = record {
+        followed = c.followed_exactly.ensures;
+        refused = c.refused_exactly.ensures;
+        bad = c.bad_exactly.ensures;
+        own = c.own_is_accepted.ensures;
+        secrets = c.secrets_exactly.ensures;
+        revealed = c.revealed_exactly.ensures;
+        once = c.revealed_once.ensures;
+        aside = c.aside_anywhere.ensures;
+      };
+      foresees = record {
+        in_order = c.requirements_in_order.ensures;
+        waits = c.waits_exactly.ensures;
+        accepted = c.accepted_exactly.ensures;
+        refused = c.cannot_is_refused.ensures;
+        not_asked = c.not_asked_is_spent.ensures;
+        goes_on = c.what_can_goes_on.ensures;
+      };
       scripts = c.script_theorem.ensures;
       no_other_way = c.false_without_one.ensures;
     }) (g.H.Hash32.digest_of c.args.hash) c.hashes_bytes.ensures _ _ _ c.serve.result
-    (seen_as seen deal_files (deal_answer secp256k1 (g.H.Hash32.digest_of c.args.hash)) (λ call. deal_files (seen call))
-    (λ call. deal_read_answer secp256k1 (g.H.Hash32.digest_of c.args.hash) (seen call)) (λ reads. refl) (λ call. refl)
+    (seen_as seen chain_files (chain_answer secp256k1 (g.H.Hash32.digest_of c.args.hash)) (λ call. chain_files (seen call))
+    (λ call. chain_read_answer secp256k1 (g.H.Hash32.digest_of c.args.hash) (seen call)) (λ reads. refl) (λ call. refl)
     (λ call reads. refl) _ c.call_of.result _ _ c.serve.result c.call_of.ensures.command c.call_of.ensures.memory c.serve.ensures)

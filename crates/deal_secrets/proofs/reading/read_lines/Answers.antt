@@ -1,4 +1,4 @@
-use Rattle.std.proofs.Common.{◌≡◌, ℕ, List, [], ◌∷◌, Some, None, sym, subst, ◌∙◌}
+use Rattle.std.proofs.Common.{◌≡◌, ℕ, ◌+◌, List, [], ◌∷◌, Some, None, OnOk, sym, subst, ◌∙◌, arith}
 use Rattle.spec_text.specs.Lines.{lines_of, words_of}
 use Rattle.spec_compiler.specs.Keyed.Instance.{Instance}
 use Rattle.spec_deal.specs.declared.entry.Shown.{Shown}
@@ -6,8 +6,8 @@ use Rattle.spec_deal.specs.SecretFile.{bad, collides, line_says, read_lines, Sec
 use Rattle.bm_hash.specs.Messages.{evidence_of}
 use Rattle.deal_secrets.specs.declared.error.LineError.{LineError}
 use Rattle.deal_secrets.specs.declared.error.LineError.TheVariants.{Bad, Collided, Memory}
-use Rattle.deal_secrets.specs.Gives.{Evidence, Stops, Refuses, at_line}
-use Rattle.deal_secrets.proofs.LinesSay.{at_line_says}
+use Rattle.deal_secrets.specs.Gives.{Evidence, Stops, Refuses, Takes, at_line}
+use Rattle.deal_secrets.proofs.LinesSay.{at_line_says, took}
 use Rattle.deal_secrets.proofs.reading.read_lines.Goals as goal
 
 -- a line that stops the reading is why the text is refused
@@ -34,3 +34,30 @@ returns-in-Err-clause-gives g c = λ s advert hashes.
     (stopped hash s c.loop-rest.trail.messages c.loop-rest.strings c.loop-rest.line (lines_of c.loop-rest.rest.now)
     (lines_of c.first_line.result.1.now) c.first_line.result.0.now c.first_line.ensures.line evidence c.in-Err.error read stops
     (c.loop-rest.invariant.told s advert hashes))
+
+pub loop-rest-preserved : goal.loop-rest-preserved
+loop-rest-preserved g c =
+    let digest = g.H.Hash32.digest_of in
+    let messages = c.loop-rest.trail.messages in
+    let new = c.take_line.new.trail.messages in
+    let prefix = c.first_line.result.0.now in
+    let more = c.first_line.result.1.now in
+    record {
+      told = λ s advert hashes.
+          subst
+          (λ h. read_lines (digest h) s new c.take_line.new.strings (c.loop-rest.line + 1) (lines_of more)
+          ≡ read_lines (digest h) s messages c.loop-rest.strings c.loop-rest.line (lines_of c.loop-rest.rest.now))
+          c.loop-rest.invariant.hasher
+          (took (digest c.loop-rest.trail.hasher) s messages c.loop-rest.strings c.loop-rest.line (lines_of c.loop-rest.rest.now)
+          (lines_of more) prefix c.first_line.ensures.line new c.take_line.new.strings
+          (subst
+          (λ r. Takes (digest c.loop-rest.trail.hasher) messages new c.loop-rest.strings c.take_line.new.strings r
+          (line_says (digest c.loop-rest.trail.hasher) s messages c.loop-rest.strings c.loop-rest.line (words_of prefix)))
+          c.in_default.is (c.take_line.ensures.takes s advert hashes)))
+          ∙ c.loop-rest.invariant.told s advert hashes;
+      hasher = c.take_line.ensures.hasher ∙ c.loop-rest.invariant.hasher;
+      clear =
+          subst (λ h. evidence_of (digest h) new ≡ None) c.loop-rest.invariant.hasher
+          (subst (λ r. OnOk r (evidence_of (digest c.loop-rest.trail.hasher) new ≡ None)) c.in_default.is c.take_line.ensures.clear);
+      line = omega arith;
+    }

@@ -1,0 +1,9 @@
+pub mod ChoiceLemmas
+pub mod DepositLemmas
+pub mod JudgeLemmas
+pub mod KnownLemmas
+pub mod OpeningLemmas
+pub mod PlaceLemmas
+pub mod ShowLemmas
+pub mod StepLemmas
+pub mod WitnessLemmas

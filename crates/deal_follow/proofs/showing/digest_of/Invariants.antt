@@ -1,0 +1,7 @@
+use Rattle.std.proofs.Common.{◌≡◌, drop}
+use Rattle.spec_data.specs.Lists.{look_up}
+use Rattle.deal_follow.proofs.showing.digest_of.Given as goal
+
+abbrev pub invariant-loop-known : goal.invariant-loop-known
+invariant-loop-known l =
+    look_up l.name (drop l.known-index l.hashes) ≡ look_up l.name l.hashes

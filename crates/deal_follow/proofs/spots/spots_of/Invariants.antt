@@ -1,0 +1,7 @@
+use Rattle.std.proofs.Common.{◌≡◌, ◌++◌, map, drop}
+use Rattle.deal_follow.specs.Boards.{place_in, place_of}
+use Rattle.deal_follow.proofs.spots.spots_of.Given as goal
+
+abbrev pub invariant-loop-output : goal.invariant-loop-output
+invariant-loop-output l =
+    map place_in l.spots ++ map place_of (drop l.output-index l.outputs) ≡ map place_of l.outputs

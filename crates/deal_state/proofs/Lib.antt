@@ -1,0 +1,4 @@
+mod Defined
+mod Known
+mod Predicates
+mod Worded

@@ -1,0 +1,2 @@
+pub mod Prospects
+pub mod Lines

@@ -1,9 +1,10 @@
-"""Which word of a line of a deal file, of signatures or of secrets is at fault, and why; and why a transaction isn't finished."""
+"""Which word of a line of a deal file, a chain file, of signatures or of secrets is at fault, and why; and why a transaction isn't
+finished."""
 import re
 
 HEX32 = rb'[0-9A-Fa-f]{64}'
 FORMS = {b'key': 'key LABEL HEX', b'deposit': 'deposit NAME TXID NUMBER', b'hash': 'hash NAME HEX'}
-SIZES = {'deal': '8,388,608', 'signatures': '8,388,608', 'secrets': '1,048,576'}
+SIZES = {'deal': '8,388,608', 'chain': '8,388,608', 'signatures': '8,388,608', 'secrets': '1,048,576'}
 # What is said of a line of signatures, with the number of the input.
 SIGNATURES = {
     'foreign': "its transaction is none of this contract with this deal file",
@@ -14,6 +15,16 @@ SIGNATURES = {
     'signature': 'a signature on input %s has not the shape that nodes relay: DER with a low S, and 01 behind it',
     'invalid': "a signature on input %s does not verify for its key and the input's digest",
     'conflict': 'an earlier line has another signature on input %s by the same key',
+}
+
+# What is said of a transaction of a chain file, with the number of the input.
+CHAIN = {
+    'tx': 'this spells no transaction in hexadecimal, or not all of it',
+    'input': 'input %s spends an output of the deal that is spent or not there yet: a transaction is left out, or out of order',
+    'foreign': 'input %s spends an output of the contract by another transaction than its own',
+    'lock': 'on every chain a lock is below the height of the block, and here it is not',
+    'witness': 'input %s has a witness for which its script is false, so no chain has it',
+    'branch': 'its witness takes a branch that has another transaction',
 }
 
 
@@ -81,6 +92,22 @@ def why_signatures_line(line, reason, number):
     if reason == 'form':
         return 'these bytes are no partially signed transaction (BIP 174)'
     return SIGNATURES[reason] % number if '%s' in SIGNATURES[reason] else SIGNATURES[reason]
+
+
+def why_chain_line(words, reason, number):
+    """The word at fault in a line of a chain file, and why."""
+    if reason == 'form':
+        comment = comment_in(words)
+        if comment is not None:
+            return comment, 'a chain file has no comments'
+        return (0 if words[0] not in (b'height', b'tx') else min(len(words), 2)), 'a line is height N or tx HEX'
+    if reason != 'height':
+        return 1, CHAIN[reason] % number if '%s' in CHAIN[reason] else CHAIN[reason]
+    if words[0] == b'tx':
+        return 0, 'a line height N, of at least 1, comes before the first transaction'
+    if not re.fullmatch(rb'0|[1-9][0-9]{0,8}', words[1]) or int(words[1]) > 499999999:
+        return 1, 'a height is a decimal of at most 499,999,999'
+    return 1, 'heights never fall: an earlier line has a higher one'
 
 
 def why_secrets_line(words, reason, other):

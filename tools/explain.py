@@ -127,10 +127,14 @@ def say_of_psbt(asked, which, reason):
     say(name, why)
 
 
+# The words of the files of a deal, by what their refusals begin with.
+DEAL_FILES = {'deal': 'DEAL', 'chain': 'CHAIN', 'signatures': 'FILE', 'secrets': 'SECRETS'}
+
+
 def say_of_deal(asked, kind, line, reason, other):
     """Shows the line at which a file of a deal was refused, with a caret under the word."""
     import deal_words
-    name, text = asked.file({'deal': 'DEAL', 'signatures': 'FILE', 'secrets': 'SECRETS'}[kind])
+    name, text = asked.file(DEAL_FILES[kind])
     bare = text.split(b'\n')[line - 1]
     words = bare.split()
     if kind == 'signatures' and text.startswith(b'psbt\xff'):
@@ -139,15 +143,17 @@ def say_of_deal(asked, kind, line, reason, other):
         at, why = 0, deal_words.why_signatures_line(bare, reason, other)
     elif kind == 'deal':
         at, why = deal_words.why_deal_line(words, reason, other)
+    elif kind == 'chain':
+        at, why = deal_words.why_chain_line(words, reason, other)
     else:
         at, why = deal_words.why_secrets_line(words, reason, other)
-    show_word(name, text, line, at, is_public=bare.startswith(b'cHNidP'))
+    show_word(name, text, line, at, is_public=bare.startswith(b'cHNidP') or words[:1] in ([b'tx'], [b'height']))
     say(name, why)
 
 
 def say_of_whole_deal(asked, kind, reason, rest):
     import deal_words
-    name = asked.name({'deal': 'DEAL', 'signatures': 'FILE', 'secrets': 'SECRETS'}[kind])
+    name = asked.name(DEAL_FILES[kind])
     if reason == 'size':
         say(name, 'has more than %s bytes' % deal_words.SIZES[kind])
     elif reason == 'missing':
@@ -181,9 +187,9 @@ ANSWERS = (
     (r'strategy refused (?:limit (\w+)|line (\d+))', lambda asked, limit, number: say_of_strategy(asked, limit, int(number or 0))),
     (r'psbt refused (?:(\d) )?(.*)', say_of_psbt),
     (r'audit refused', lambda asked: say(asked.name('FILE'), 'has more than 8,388,608 bytes')),
-    (r'(deal|signatures|secrets) refused line (\d+) (\w+)(?: (\d+))?',
+    (r'(deal|chain|signatures|secrets) refused line (\d+) (\w+)(?: (\d+))?',
      lambda asked, kind, line, reason, other: say_of_deal(asked, kind, int(line), reason, other)),
-    (r'(deal|signatures|secrets) refused (\w+) ?(.*)', say_of_whole_deal),
+    (r'(deal|chain|signatures|secrets) refused (\w+) ?(.*)', say_of_whole_deal),
     (r'refused path (\S+)', say_of_path),
     (r'refused (\w+) ?(.*)', say_of_refused),
     (r'rules', say_of_rules),

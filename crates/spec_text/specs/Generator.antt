@@ -186,8 +186,8 @@ generated_events size state = first_events ++ all_stages size 1 (begun state)
 abbrev pub generated_secrets : ℕ → ℕ → Drawn (List Generated)
 generated_secrets number size = draw_secrets size 1 number
 
-abbrev pub made_run_of : ℕ → Drawn (List Generated) → Run
-made_run_of size ms = record { header = generated_header (ms.0); events = generated_events size (ms.1) }
+abbrev pub generated_run_of : ℕ → Drawn (List Generated) → Run
+generated_run_of size ms = record { header = generated_header (ms.0); events = generated_events size (ms.1) }
 
 -- the contract of a number and a size
 abbrev pub generated_contract : ℕ → ℕ → Advert
@@ -195,4 +195,4 @@ generated_contract number size = generated_advert ((generated_secrets number siz
 
 -- the run of a number and a size
 abbrev pub generated_run : ℕ → ℕ → Run
-generated_run number size = made_run_of size (generated_secrets number size)
+generated_run number size = generated_run_of size (generated_secrets number size)

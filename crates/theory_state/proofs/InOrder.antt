@@ -29,7 +29,7 @@ use Rattle.spec_chain.specs.Commands as commands
 use Rattle.spec_chain.specs.Commands.{ChainCommand}
 use Rattle.theory_deal.specs.Causes.{Cause, DealCausesTheorem, if_read, if_taken, is_unread, do_collide, is_circular, are_bad, have_collided}
 use Rattle.theory_deal.specs.Causes.{first_status}
-use Rattle.theory_state.specs.Causes.{is_refused, is_clashing, chain_of, told_behind, state_causes, causes_on_chain, causes}
+use Rattle.theory_state.specs.Causes.{is_refused, is_collided, chain_of, told_behind, state_causes, causes_on_chain, causes}
 
 -- ---- where a deal stands
 
@@ -38,7 +38,7 @@ module _ (v : Verifier) (hash : List ℕ → List ℕ) (signatures : Text) (keys
   abbrev causes_behind : Option Text → Followed → List Cause
   causes_behind secrets f =
       (is_refused f, 17)
-      ∷ (is_clashing f, 8)
+      ∷ (is_collided f, 8)
       ∷ (is_err (signatures_in v hash keys s signatures), 14)
       ∷ (are_bad (told_behind hash s secrets f), 15)
       ∷ (have_collided (told_behind hash s secrets f), 8)

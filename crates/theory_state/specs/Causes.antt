@@ -27,10 +27,10 @@ is_refused (stands course tip) = false
 is_refused (refused fault) = true
 is_refused (collided earlier later) = false
 
-abbrev pub is_clashing : Followed → Bool
-is_clashing (stands course tip) = false
-is_clashing (refused fault) = false
-is_clashing (collided earlier later) = true
+abbrev pub is_collided : Followed → Bool
+is_collided (stands course tip) = false
+is_collided (refused fault) = false
+is_collided (collided earlier later) = true
 
 abbrev pub chain_of : (List ℕ → List ℕ) → Text → Keys → Instance → Followed
 chain_of hash chain keys s = follow_reading hash keys s (chain_in chain)
@@ -49,7 +49,7 @@ told_behind hash s (Some text) (collided earlier later) = shows []
 abbrev pub state_causes : Verifier → (List ℕ → List ℕ) → Text → Text → Option Text → ((Keys → Instance → Bool) → Bool) → List Cause
 state_causes v hash chain signatures secrets so =
     (so (λ keys s. is_refused (chain_of hash chain keys s)), 17)
-    ∷ (so (λ keys s. is_clashing (chain_of hash chain keys s)), 8)
+    ∷ (so (λ keys s. is_collided (chain_of hash chain keys s)), 8)
     ∷ (so (λ keys s. is_err (signatures_in v hash keys s signatures)), 14)
     ∷ (so (λ keys s. are_bad (told_behind hash s secrets (chain_of hash chain keys s))), 15)
     ∷ (so (λ keys s. have_collided (told_behind hash s secrets (chain_of hash chain keys s))), 8)

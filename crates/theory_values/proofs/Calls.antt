@@ -87,7 +87,7 @@ unfolding is_name word_prefix number_prefix symbol_prefix read_answer advert_of_
     ops_of number_of_item signed_bytes item_of_number play_text
 seventeen_contracts = refl
 
-made_run_is_too_large :
+generated_run_is_too_large :
     replies small_hash (codes "make" ∷ codes "7" ∷ codes "31" ∷ [])
     ([])
     ≡ prints 2 (lines (codes "usage" ∷ []))
@@ -97,7 +97,7 @@ unfolding is_name word_prefix number_prefix symbol_prefix read_answer advert_of_
     digits label_text stripped marked compact places_list sequences_list outputs_list preimage position_script many wide_at compact_at
     string_at input_at inputs_at output_at outputs_at witness_at witnesses_at plain_at marked_at transaction_at all_at script_meaning
     ops_of number_of_item signed_bytes item_of_number make_text
-made_run_is_too_large = refl
+generated_run_is_too_large = refl
 
 abbrev no_events_run : List ℕ
 no_events_run =

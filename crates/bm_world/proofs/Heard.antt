@@ -14,7 +14,7 @@ use Rattle.theory_run.proofs.Facts.OwnLabels.{labels_later}
 use Rattle.theory_run.specs.KeptRuns.{KeptBooks}
 use Rattle.theory_run.proofs.Facts.Bookkeeping.{checks}
 use Rattle.theory_run.proofs.Events.Quiet.{refused_after}
-use Rattle.bm_world.specs.Playing.{Kept}
+use Rattle.bm_world_board.specs.Playable.{Kept}
 
 module _ (s : Setup) (setup : IsSetup s) (g : Configuration) (w : World) (keeps : KeptBooks s g w) (xs : List (List ℕ))
     (apart : collision s.hash w.hashed xs ≡ None) where

@@ -1,6 +1,5 @@
 mod Compiling
 mod Foretold
-mod Fresh
 mod Heard
 mod Opened
 mod Passed

@@ -21,7 +21,8 @@ use Rattle.bm_world_board.proofs.Refusals.{passed_by}
 use Rattle.bm_world_apply.specs.Applying.{Makes}
 use Rattle.bm_world_apply.proofs.Unguessed.{none_guessed}
 use Rattle.bm_world.specs.declared.halt.Halt.TheVariants.{Memory}
-use Rattle.bm_world.specs.Playing.{IsPlayable, IsCompiledAfter, GoesOn, Halts}
+use Rattle.bm_world_board.specs.Playable.{IsPlayable}
+use Rattle.bm_world.specs.Playing.{IsCompiledAfter, GoesOn, Halts}
 use Rattle.bm_world.proofs.Compiling.{still_compiled}
 use Rattle.bm_world.proofs.Played.{short_halts, passes_by, goes_by}
 

@@ -43,7 +43,8 @@ use Rattle.bm_match.specs.Matches.{all_compiled}
 use Rattle.bm_world_board.specs.Compiling.{placed}
 use Rattle.bm_world_board.specs.Prepares.{world_of, tx_in, changed, IsReady, Prepares}
 use Rattle.bm_world_apply.specs.Applying.{IsMakeable, Makes}
-use Rattle.bm_world.specs.Playing.{most_records, HashedPrefix, JudgedHalts, Halts, Kept, IsPlayable, IsCompiledAfter, Passes, Tests, SameBoard, GoesOn, IsWorld}
+use Rattle.bm_world_board.specs.Playable.{Kept, IsPlayable}
+use Rattle.bm_world.specs.Playing.{most_records, HashedPrefix, JudgedHalts, Halts, IsCompiledAfter, Passes, Tests, SameBoard, GoesOn, IsWorld}
 use Rattle.bm_hash.proofs.Collisions.{hashed_adds, stopped_shows}
 use Rattle.bm_world_apply.proofs.Applied.{changed-hashed}
 use Rattle.bm_world.specs.Reached.{IsReached}

@@ -8,7 +8,7 @@ use Rattle.spec_run.specs.Conditions.{IsSetup}
 use Rattle.spec_run.specs.Translation.{last_world}
 use Rattle.theory_calculus.proofs.Names.{all_among}
 use Rattle.theory_run.proofs.Worlds.WorldsOfRuns.{world_of_run}
-use Rattle.bm_world_fire.specs.Shown.{ArePostsHashed}
+use Rattle.bm_world_board.specs.Playable.{ArePostsHashed}
 use Rattle.bm_world.specs.Reached.{events_of, IsLeft, IsReached}
 use Rattle.bm_world.proofs.Reaching.{run_of, last_is}
 

@@ -1,8 +1,7 @@
 -- What an event leaves.
-use Rattle.std.specs.Prelude.{◌≡◌, ℕ, ◌+◌, ◌*◌, ◌<◌, ◌≤◌, ◌^◌, List, [], ◌∷◌, ◌++◌, map, length, Bool, not, Option, Some, None}
-use Rattle.spec_data.specs.Ranges.{most_header_deposits, most_gift_outputs, most_piece_bytes}
+use Rattle.std.specs.Prelude.{◌≡◌, ℕ, ◌+◌, ◌*◌, ◌≤◌, List, [], ◌∷◌, ◌++◌, map, length, Bool, not, Option, Some, None}
+use Rattle.spec_data.specs.Ranges.{most_header_deposits, most_gift_outputs}
 use Rattle.spec_terms.specs.Advert.{Advert}
-use Rattle.spec_calculus.specs.Configuration.{Configuration}
 use Rattle.spec_run.specs.declared.event.Event.{Event}
 use Rattle.spec_run.specs.declared.header.Header.{Header}
 use Rattle.spec_run.specs.declared.outcome.Outcome.{Outcome}
@@ -21,7 +20,6 @@ use Rattle.spec_run.specs.Pending.{Halted, applied}
 use Rattle.spec_run.specs.Pending as run
 use Rattle.spec_run.specs.Event.{pending, event, record_of}
 use Rattle.bm_hash.specs.Messages.{evidence_of, noted_all}
-use Rattle.theory_run.specs.KeptRuns.{KeptBooks}
 use Rattle.bm_world.specs.declared.halt.Halt.{Halt}
 use Rattle.bm_world.specs.declared.halt.Halt.TheVariants.{Collided, Guessed}
 use Rattle.bm_world.specs.Halts.{halt_of, IsAgain}
@@ -30,9 +28,9 @@ use Rattle.bm_match.specs.Matches.{all_compiled}
 use Rattle.bm_world_board.specs.declared.board.Board.{Board}
 use Rattle.bm_world_board.specs.Compiling.{placed}
 use Rattle.bm_world_board.specs.declared.pending_change.PendingChange.{PendingChange}
+use Rattle.bm_world_board.specs.Playable.{Kept}
 use Rattle.bm_world_board.specs.Prepares.{world_of, Prepares}
 use Rattle.bm_world.specs.Reached.{IsReached, AreFound}
-use Rattle.bm_world_fire.specs.Shown.{ArePostsHashed}
 use Rattle.bm_world_board.specs.Accounts.{account_of}
 use Rattle.bm_world_board.specs.Secrets.{secret_strings}
 
@@ -76,23 +74,6 @@ pub record Halts (s : Setup) (w : World) (messages : List (List ℕ)) (e : Event
 -- an event comes after fewer records
 abbrev pub most_records : ℕ
 most_records = 16000
-
--- a configuration with which all is kept that the theorems keep of a run
-pub record Kept (s : Setup) (w : World) : Type 0 where
-  pub config : Configuration
-  pub books : KeptBooks s config w
-
--- a board with these messages before an event
-pub record IsPlayable (s : Setup) (b : Board) (messages : List (List ℕ)) : Type 0 where
-  pub setup : IsSetup s
-  pub accounts : b.accounts ≡ map (account_of s.hash) s.header.parties
-  pub known : b.known ≡ secret_strings s.header.secrets
-  pub compiled : b.compiled ≡ all_compiled s (world_of b messages)
-  pub kept : Kept s (world_of b messages)
-  pub clear : evidence_of s.hash messages ≡ None
-  pub posted : ArePostsHashed (world_of b messages)
-  -- the outputs of one more transaction can be numbered
-  pub room : length b.coins.outputs + most_piece_bytes < 2 ^ 32
 
 -- a board with these messages and records after some events, of which the last may have halted
 pub record IsWorld (s : Setup) (b : Board) (messages : List (List ℕ)) (trace : List Record) (halt : Option Halt) : Type 0 where

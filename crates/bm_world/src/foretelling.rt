@@ -2,10 +2,10 @@
 
 ghost use Rattle.std.specs.Prelude.{◌≡◌, IfOk, IfErr};
 ghost use Rattle.spec_run.specs.Conditions.{IsEvent};
+ghost use Rattle.bm_world_board.specs.Playable.{IsPlayable};
 ghost use Rattle.bm_world_board.specs.Prepares.{setup_of, world_of, Signs};
 ghost use Rattle.bm_hash.specs.Trails.{StopsAlong};
 ghost use Rattle.spec_run.specs.Event as run;
-ghost use Rattle.bm_world.specs.Playing.{IsPlayable};
 ghost use Rattle.bm_world.specs.Foreseeing.{Foretells};
 
 use crate::preparing::pending;

@@ -6,8 +6,8 @@ ghost use Rattle.bm_hash.specs.Trails.{StopsAlong};
 ghost use Rattle.spec_run.specs.Conditions.{IsPiece, IsGift};
 ghost use Rattle.spec_run.specs.Event as run;
 ghost use Rattle.spec_run.specs.declared.event.Event.TheVariants as events;
+ghost use Rattle.bm_world_board.specs.Playable.{IsPlayable};
 ghost use Rattle.bm_world_board.specs.Prepares.{setup_of, world_of, Prepares, Signs};
-ghost use Rattle.bm_world.specs.Playing.{IsPlayable};
 
 use bm_hash::{Hash32, Trail, TrailError};
 use bm_world_board::{Board, PendingChange};

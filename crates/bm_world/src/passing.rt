@@ -4,8 +4,9 @@ ghost use Rattle.std.specs.Prelude.{◌≡◌, ℕ, ◌+◌, ◌<◌, ◌≤◌,
 ghost use Rattle.spec_data.specs.Ranges.{last_height};
 ghost use Rattle.spec_run.specs.declared.event.Event.TheVariants as events;
 ghost use Rattle.spec_run.specs.declared.outcome.Outcome.TheVariants as outcomes;
+ghost use Rattle.bm_world_board.specs.Playable.{IsPlayable};
 ghost use Rattle.bm_world_board.specs.Prepares.{setup_of, world_of};
-ghost use Rattle.bm_world.specs.Playing.{IsPlayable, SameBoard, GoesOn, Halts};
+ghost use Rattle.bm_world.specs.Playing.{SameBoard, GoesOn, Halts};
 
 use crate::halt::Halt;
 use bm_hash::{Hash32, Trail};

@@ -4,8 +4,9 @@ ghost use Rattle.std.specs.Prelude.{◌≡◌, IfOk, IfErr, OnErr};
 ghost use Rattle.spec_run.specs.Conditions.{IsEvent};
 ghost use Rattle.spec_run.specs.Event as run;
 ghost use Rattle.spec_run.specs.Values as values;
+ghost use Rattle.bm_world_board.specs.Playable.{IsPlayable};
 ghost use Rattle.bm_world_board.specs.Prepares.{setup_of, world_of, Prepares, Signs};
-ghost use Rattle.bm_world.specs.Playing.{IsPlayable, IsCompiledAfter, Passes, SameBoard, GoesOn, Tests, Halts};
+ghost use Rattle.bm_world.specs.Playing.{IsCompiledAfter, Passes, SameBoard, GoesOn, Tests, Halts};
 
 use crate::evidence::trail_halt;
 use crate::halt::Halt;

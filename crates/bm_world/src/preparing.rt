@@ -4,9 +4,10 @@ ghost use Rattle.std.specs.Prelude.{◌≡◌, IfOk, IfErr};
 ghost use Rattle.bm_hash.specs.Trails.{StopsAlong};
 ghost use Rattle.spec_run.specs.Conditions.{IsEvent};
 ghost use Rattle.spec_run.specs.Event as run;
+ghost use Rattle.bm_world_board.specs.Playable.{IsPlayable};
 ghost use Rattle.bm_world_board.specs.Prepares.{setup_of, world_of, Prepares, Signs};
 ghost use Rattle.bm_world.specs.Kinds.{IsNoCommit};
-ghost use Rattle.bm_world.specs.Playing.{IsPlayable, IsCompiledAfter};
+ghost use Rattle.bm_world.specs.Playing.{IsCompiledAfter};
 
 use crate::handing::{pending_appended, pending_given, pending_initial, pending_taken};
 use crate::telling::{

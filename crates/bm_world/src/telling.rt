@@ -5,8 +5,9 @@ ghost use Rattle.std.specs.Prelude.{◌≡◌, IfOk, IfErr};
 ghost use Rattle.bm_hash.specs.Trails.{StopsAlong};
 ghost use Rattle.spec_run.specs.Event as run;
 ghost use Rattle.spec_run.specs.declared.event.Event.TheVariants as events;
+ghost use Rattle.bm_world_board.specs.Playable.{IsPlayable};
 ghost use Rattle.bm_world_board.specs.Prepares.{setup_of, world_of, Prepares, Signs};
-ghost use Rattle.bm_world.specs.Playing.{IsPlayable, IsCompiledAfter};
+ghost use Rattle.bm_world.specs.Playing.{IsCompiledAfter};
 
 use bm_compile::Compiled;
 use bm_hash::{Hash32, Trail, TrailError};

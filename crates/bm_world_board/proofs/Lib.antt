@@ -2,3 +2,4 @@ pub mod Naming
 pub mod Refusals
 pub mod Reached
 pub mod Compilations
+pub mod Fresh

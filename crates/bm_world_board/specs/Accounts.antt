@@ -1,5 +1,6 @@
 -- The accounts of the declared parties: their keys, and the scripts of their deposits.
-use Rattle.std.specs.Prelude.{ℕ, List, [], ◌∷◌, map, if◌then◌else◌}
+use Rattle.std.specs.Prelude.{ℕ, List, [], ◌∷◌, map, Bool, is_some, if◌then◌else◌}
+use Rattle.std.specs.List.{find}
 use Rattle.std.specs.Str.{bytes_eq}
 use Rattle.spec_bitcoin.specs.declared.label.Label.TheVariants as labels
 use Rattle.spec_bitcoin.specs.Keys.{label_text, deposit_script, pay_to}
@@ -28,6 +29,10 @@ account_with hash named = record { party = named.0; key = named.1; script = scri
 -- the account of a party
 abbrev pub account_of : (List ℕ → List ℕ) → List ℕ → Account
 account_of hash party = account_with hash (named_key hash party)
+
+-- whether the party has one of these accounts
+abbrev pub has_account : List Account → List ℕ → Bool
+has_account accounts party = is_some (find (λ (a : Account). bytes_eq a.party party) accounts)
 
 -- what is hashed for the keys of these parties, and what for their deposits
 abbrev pub opening_labels : List (List ℕ) → List (List ℕ)

@@ -3,3 +3,4 @@ pub mod Reaching
 pub mod Accounts
 pub mod Secrets
 pub mod Compiling
+pub mod Playable

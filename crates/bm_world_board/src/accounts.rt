@@ -1,13 +1,13 @@
 //! The accounts of the declared parties.
 
-ghost use Rattle.std.specs.Prelude.{◌≡◌, ◌++◌, ◌∷◌, [], map, option_map, None, IfOk, OnOk};
+ghost use Rattle.std.specs.Prelude.{◌≡◌, ◌++◌, ◌∷◌, [], ℕ, List, true, map, None, IfOk, OnOk};
 ghost use Rattle.std.specs.List.{find};
 ghost use Rattle.std.specs.Option.{option_copied};
 ghost use Rattle.std.specs.Str.{bytes_eq};
 ghost use Rattle.bm_hash.specs.Messages.{evidence_of};
 ghost use Rattle.bm_hash.specs.Trails.{Hashes};
 ghost use Rattle.spec_bitcoin.specs.Keys as keys;
-ghost use Rattle.bm_world_board.specs.Accounts.{account_of, account_with, named_key, label_string, script_string, opening_labels, opening_scripts, owner_in};
+ghost use Rattle.bm_world_board.specs.Accounts.{has_account, account_of, account_with, named_key, label_string, script_string, opening_labels, opening_scripts, owner_in};
 
 use bm_hash::{Hash32, Trail, TrailError};
 use bm_keys::{deposit_script, key, pay_to};
@@ -113,8 +113,8 @@ pub fn accounts_of<H: Hash32 + Drop>(
     Ok(accounts)
 }
 
-/// The account of the party. There are at most 64 parties.
-pub fn account_at<'a>(accounts: &'a [Account], party: &Name) -> Option<&'a Account>
+// The account of the party, if it has one. There are at most 64 parties.
+fn account_at<'a>(accounts: &'a [Account], party: &Name) -> Option<&'a Account>
     ensures { option_copied result ≡ find (λ a. bytes_eq a.party party.now) accounts.now }
 {
     for account in accounts {
@@ -123,6 +123,17 @@ pub fn account_at<'a>(accounts: &'a [Account], party: &Name) -> Option<&'a Accou
         }
     }
     None
+}
+
+/// The account of a party that has one, as each declared party has.
+pub fn declared_account<'a>(accounts: &'a [Account], party: &Name) -> &'a Account
+    requires { has_account accounts.now party.now ≡ true }
+    ensures { (hash : List ℕ → List ℕ) (parties : List (List ℕ)) → accounts.now ≡ map (account_of hash) parties → result.now ≡ account_of hash party.now }
+{
+    let Some(account) = account_at(accounts, party) else {
+        unreachable!()
+    };
+    account
 }
 
 /// The first of the parties whose deposits pay to the script, else somebody outside.

@@ -8,7 +8,7 @@ mod branches;
 mod pending_change;
 mod reaching;
 
-pub use accounts::{Account, account_at, accounts_of, owner_of_script};
+pub use accounts::{Account, accounts_of, declared_account, owner_of_script};
 pub use board::{Board, is_name_among};
 pub use pending_change::{Appending, Change, PendingChange, Promising, Purpose};
 pub use reaching::{reach, spent_numbers};

@@ -2,12 +2,10 @@
 use Rattle.spec_calculus.specs.Configuration.{Configuration}
 use Rattle.spec_run.specs.Setup.{Setup}
 use Rattle.spec_run.specs.World.{World}
-use Rattle.theory_world.proofs.Contracts.Standing.{term_choice}
 use Rattle.theory_run.specs.KeptRuns.{KeptBooks}
 use Rattle.theory_run.specs.KeptBook.{HeldFine}
 use Rattle.theory_run.proofs.Events.Quiet.{IsActive, active}
-use Rattle.bm_world_spend.specs.Placed.{IsPlaced}
-use Rattle.bm_world_fire.specs.Standing.{IsStanding, AreStanding}
+use Rattle.bm_world_fire.specs.Standing.{AreStanding}
 
 -- every live contract output holds a position of a compiled contract
 pub standing_of : (s : Setup) (g : Configuration) (w : World) → KeptBooks s g w → AreStanding s w
@@ -16,18 +14,4 @@ standing_of s g w keeps = record {
       let at : IsActive w n held = active w n held h in
       let fine : HeldFine s w at.output held = keeps.book.held n at.output held at.there at.holds in
       record { instance = fine.instance; compiled = fine.compiled; here = fine.here; choice = fine.choice; stands = fine.stands };
-}
-
--- and so a position of its term
-pub placed_by : (s : Setup) (w : World) → AreStanding s w → IsPlaced s w
-placed_by s w are = record {
-  held = λ n held h.
-      let is : IsStanding s w held = are.held n held h in
-      record {
-        instance = is.instance;
-        compiled = is.compiled;
-        choice = is.choice;
-        stands = term_choice s.hash is.instance held.position
-            is.here is.choice is.stands;
-      };
 }

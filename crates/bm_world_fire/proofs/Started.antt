@@ -3,23 +3,29 @@ use Rattle.std.proofs.Common.{◌≡◌, ℕ, [], ◌∷◌, true, not, Option, 
 use Rattle.std.specs.Prelude.{option_map, is_some, if◌then◌else◌}
 use Rattle.spec_data.specs.Lists.{first_reason}
 use Rattle.spec_terms.specs.Advert.{Advert}
+use Rattle.spec_bitcoin.specs.declared.tx.Tx.{Tx}
 use Rattle.spec_compiler.specs.Instance.{Instance}
 use Rattle.spec_compiler.specs.Transactions.{prepared, initial_unsigned}
 use Rattle.spec_run.specs.declared.outcome.Reason.TheVariants as reason
 use Rattle.spec_run.specs.Setup.{Setup, contract_at}
 use Rattle.spec_run.specs.World.{World}
-use Rattle.spec_run.specs.Compiled.{instance_if_complete, compiled_instance}
-use Rattle.spec_run.specs.Firing.{with_witnesses, initial_by, fire_init_row}
+use Rattle.spec_run.specs.Compiled.{compiled_instance}
+use Rattle.spec_run.specs.Firing.{with_witnesses, initial_by, initial_transaction, fire_init_row}
 use Rattle.theory_world.proofs.Later.{compiled_is}
 use Rattle.bm_compile.specs.Numbered.{Numbered, numbered}
 use Rattle.bm_world_fire.specs.Filled.{initial_with, owners_in}
 use Rattle.bm_world_fire.proofs.Taken.{deposits_each}
 
-module _ (s : Setup) (w : World) (k : ℕ) where
-  -- no contract
-  pub initial_nowhere : contract_at s k ≡ None → None ≡ initial_by s (compiled_instance s w k)
-  initial_nowhere e = sym (ap (λ o. initial_by s (instance_if_complete w k o)) e)
+-- it is the initial transaction of this contract, which is compiled
+pub record IsStarted (s : Setup) (w : World) (k : ℕ) (tx : Tx) : Type 0 where
+  pub instance : Instance
+  pub compiled : compiled_instance s w k ≡ Some instance
+  pub is : tx ≡ initial_transaction s instance
 
+pub started_is : (s : Setup) (w : World) (k : ℕ) (tx : Tx) → IsStarted s w k tx → Some tx ≡ initial_by s (compiled_instance s w k)
+started_is s w k tx is = ap Some is.is ∙ sym (ap (initial_by s) is.compiled)
+
+module _ (s : Setup) (w : World) (k : ℕ) where
   -- not compiled
   pub instance_none : option_map (numbered s.hash) (compiled_instance s w k) ≡ None → compiled_instance s w k ≡ None
   instance_none e = by_instance (compiled_instance s w k) e
@@ -28,11 +34,8 @@ module _ (s : Setup) (w : World) (k : ℕ) where
       by_instance None q = refl
       by_instance (Some st) q = cc
 
-  pub initial_none : option_map (numbered s.hash) (compiled_instance s w k) ≡ None → None ≡ initial_by s (compiled_instance s w k)
-  initial_none e = sym (ap (initial_by s) (instance_none e))
-
   -- compiled
-  pub initial_some : (a : Advert) (n : Numbered) → contract_at s k ≡ Some a → option_map (numbered s.hash) (compiled_instance s w k)
+  initial_some : (a : Advert) (n : Numbered) → contract_at s k ≡ Some a → option_map (numbered s.hash) (compiled_instance s w k)
       ≡ Some n → Some (initial_with s.hash a.pre n.init) ≡ initial_by s (compiled_instance s w k)
   initial_some a n there e = by_instance (compiled_instance s w k) refl e
     where
@@ -47,6 +50,16 @@ module _ (s : Setup) (w : World) (k : ℕ) where
           let d = prepared s.hash (initial_unsigned s.hash st) in
           let filled = deposits_each s (owners_in st.advert.pre) d.digests in
           (λ i. Some (initial_with s.hash ((sym text i).pre) ((made i).init))) ∙ (λ i. Some (with_witnesses d.tx (filled i)))
+
+  pub started : (a : Advert) (n : Numbered) → contract_at s k ≡ Some a → option_map (numbered s.hash) (compiled_instance s w k) ≡ Some n
+      → (tx : Tx) → tx ≡ initial_with s.hash a.pre n.init → IsStarted s w k tx
+  started a n there e tx is = by_instance (compiled_instance s w k) refl (initial_some a n there e)
+    where
+      by_instance : (o : Option Instance) → compiled_instance s w k ≡ o → Some (initial_with s.hash a.pre n.init) ≡ initial_by s o → IsStarted s w k tx
+      by_instance None c q = cc
+      by_instance (Some st) c q =
+          let z : initial_with s.hash a.pre n.init ≡ initial_transaction s st = cc in
+          record { instance = st; compiled = c; is = is ∙ z }
 
   -- ---- refusals
 

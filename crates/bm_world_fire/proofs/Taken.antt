@@ -115,6 +115,10 @@ module _ (s : Setup) (w : World) (held : ContractPosition) (is : IsStanding s w 
         ∙ sym (map-map (λ key. signature_of key digest)
         (λ party. key_of s.hash (branch_label is.instance.contract (position_path held j) party)) (participants is.instance.advert))
 
+    pub taking_whole : taking_of_position s w (Some held) j ≡ Some (taking_transaction s w is.instance held j is.choice b made)
+    taking_whole = λ i. taking_of_parts s w held j (is.compiled i) (chosen i) (found i)
+        ((ap (λ o. prepared_if_compiled s o (position_path held j)) is.compiled ∙ made_there) i)
+
     pub taking_is : Some (taking_with s w.posted held.contract is.instance.advert (digests_at w.promises held.contract)
         (position_path held j) j (length (branches is.choice)) b (prepared s.hash (branch_unsigned s.hash is.instance is.here j b))
         (position_script s.hash is.instance held.position is.choice))
@@ -122,11 +126,9 @@ module _ (s : Setup) (w : World) (held : ContractPosition) (is : IsStanding s w 
     taking_is =
         let d = prepared s.hash (branch_unsigned s.hash is.instance is.here j b) in
         let script = position_script s.hash is.instance held.position is.choice in
-        let whole : taking_of_position s w (Some held) j ≡ Some (taking_transaction s w is.instance held j is.choice b d) =
-        λ i. taking_of_parts s w held j (is.compiled i) (chosen i) (found i) ((ap (λ o. prepared_if_compiled s o (position_path held j)) is.compiled ∙ made_there) i) in
         let with_hashes = ap (λ hs. taking_with s w.posted held.contract is.instance.advert hs (position_path held j) j (length (branches is.choice)) b d script) (sym hashes_are) in
         let signed = signatures_are (first_digest d) in
         let deposits = deposits_each s (map (owner_in is.instance.advert.pre) (puts_of (core b))) (other_digests d.digests) in
         let filled : taking_with s w.posted held.contract is.instance.advert is.instance.hashes (position_path held j) j (length (branches is.choice)) b d script ≡ taking_transaction s w is.instance held j is.choice b d =
         λ i. with_witnesses d.tx (witness_of (signed i) (shown_for s w.posted is.instance.hashes b) j (length (branches is.choice)) script ∷ deposits i) in
-        ap Some (with_hashes ∙ filled) ∙ sym whole
+        ap Some (with_hashes ∙ filled) ∙ sym taking_whole

@@ -18,7 +18,6 @@ use Rattle.spec_run.specs.Firing.{first_unshown, unknown_secret, position_instan
 use Rattle.theory_world.proofs.Later.{compiled_is}
 use Rattle.bm_compile.specs.Numbered.{Numbered, numbered}
 use Rattle.bm_world_fire.specs.Shown.{first_unshown_by}
-use Rattle.bm_world_fire.proofs.Started.{instance_none}
 
 unshown_each : (s : Setup) (w : World) (instance : Instance) (names : List (List ℕ)) → first_unshown_by s w.posted instance.hashes names
     ≡ first_unshown s w instance names
@@ -27,9 +26,6 @@ unshown_each s w instance (name ∷ names) =
     ap (λ rest. if is_some (fitting s w.posted (digest_of instance.hashes name)) then rest else Some name) (unshown_each s w instance names)
 
 module _ (s : Setup) (w : World) (k : ℕ) (b : term.Guarded) where
-  pub unknown_none : option_map (numbered s.hash) (compiled_instance s w k) ≡ None → None ≡ unknown_secret s w (compiled_instance s w k) (Some b)
-  unknown_none e = sym (ap (λ o. unknown_secret s w o (Some b)) (instance_none s w k e))
-
   pub unknown_some : (n : Numbered) → option_map (numbered s.hash) (compiled_instance s w k) ≡ Some n
       → first_unshown_by s w.posted (digests_at w.promises k) (reveals_of (core b)) ≡ unknown_secret s w (compiled_instance s w k) (Some b)
   unknown_some n e = by_instance (compiled_instance s w k) refl e

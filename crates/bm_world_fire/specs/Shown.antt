@@ -1,8 +1,7 @@
 -- Strings that were posted, by the messages that were hashed.
-use Rattle.std.specs.Prelude.{◌≡◌, ℕ, List, [], ◌∷◌, true, ◌&&◌, if◌then◌else◌, is_some, Option, Some, None}
+use Rattle.std.specs.Prelude.{ℕ, List, [], ◌∷◌, ◌&&◌, if◌then◌else◌, is_some, Option, Some, None}
 use Rattle.spec_data.specs.Lists.{is_among}
 use Rattle.spec_run.specs.Setup.{Setup}
-use Rattle.spec_run.specs.World.{World}
 use Rattle.spec_run.specs.Revealing.{fitting}
 use Rattle.spec_run.specs.Committing.{is_secret_long}
 use Rattle.spec_compiler.specs.Scripts.{digest_of}
@@ -20,7 +19,3 @@ abbrev pub first_unshown_by : Setup → List (List ℕ) → List (List ℕ × Li
 first_unshown_by s posted hashes [] = None
 first_unshown_by s posted hashes (name ∷ names) =
     if is_some (shown_by s posted hashes name) then first_unshown_by s posted hashes names else Some name
-
--- each string that was posted was hashed
-pub record ArePostsHashed (w : World) : Type 0 where
-  pub hashed : (string : List ℕ) → is_among string w.posted ≡ true → is_among string w.hashed ≡ true

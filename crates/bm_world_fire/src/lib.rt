@@ -8,5 +8,6 @@ mod firing;
 mod initial;
 mod shown;
 mod taking;
+mod witnesses;
 
 pub use firing::{pending_fire, pending_fire_init};

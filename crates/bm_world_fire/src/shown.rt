@@ -1,11 +1,11 @@
 //! Posted strings that fit committed secrets.
 
-ghost use Rattle.std.specs.Prelude.{◌≡◌, ℕ, List, None, map, option_map, IfOk};
+ghost use Rattle.std.specs.Prelude.{◌≡◌, map, option_map, IfOk};
 ghost use Rattle.spec_data.specs.Lists.{look_up, is_among};
-ghost use Rattle.bm_hash.specs.Messages.{evidence_of};
 ghost use Rattle.spec_run.specs.Setup.{bytes_or_none};
-ghost use Rattle.bm_world_board.specs.Prepares.{setup_of, world_of};
-ghost use Rattle.bm_world_fire.specs.Shown.{if_shown, shown_by, first_unshown_by, ArePostsHashed};
+ghost use Rattle.bm_world_board.specs.Playable.{IsPlayable};
+ghost use Rattle.bm_world_board.specs.Prepares.{setup_of};
+ghost use Rattle.bm_world_fire.specs.Shown.{if_shown, shown_by, first_unshown_by};
 
 use bm_exchange::{Exchange, is_secret_long};
 use bm_hash::{Hash32, Trail};
@@ -44,8 +44,7 @@ fn shown<'a, H: Hash32 + Drop>(
     hashes: &[(Name, [u8; 32])],
     name: &Name,
 ) -> Option<&'a [u8]>
-    requires clear { evidence_of (H.digest_of trail.now.hasher) trail.now.messages ≡ None }
-    requires posted { ArePostsHashed (world_of board.now trail.now.messages) }
+    requires playable { IsPlayable (setup_of (H.digest_of trail.now.hasher) board.now) board.now trail.now.messages }
     ensures { let s = setup_of (H.digest_of trail.now.hasher) board.now in
         option_map (λ b. b.now) result ≡ shown_by s board.now.exchange.posted hashes.now name.now }
 {
@@ -65,8 +64,7 @@ pub(crate) fn first_unshown<H: Hash32 + Drop>(
     hashes: &[(Name, [u8; 32])],
     names: &[Name],
 ) -> Option<Name>
-    requires clear { evidence_of (H.digest_of trail.now.hasher) trail.now.messages ≡ None }
-    requires posted { ArePostsHashed (world_of board.now trail.now.messages) }
+    requires playable { IsPlayable (setup_of (H.digest_of trail.now.hasher) board.now) board.now trail.now.messages }
     ensures { let s = setup_of (H.digest_of trail.now.hasher) board.now in
         result ≡ first_unshown_by s board.now.exchange.posted hashes.now names.now }
 {
@@ -86,8 +84,7 @@ fn shown_or_none<H: Hash32 + Drop>(
     hashes: &[(Name, [u8; 32])],
     name: &Name,
 ) -> Result<Bytes, OutOfMemory>
-    requires clear { evidence_of (H.digest_of trail.now.hasher) trail.now.messages ≡ None }
-    requires posted { ArePostsHashed (world_of board.now trail.now.messages) }
+    requires playable { IsPlayable (setup_of (H.digest_of trail.now.hasher) board.now) board.now trail.now.messages }
     ensures { let s = setup_of (H.digest_of trail.now.hasher) board.now in
         IfOk result (λ b. b ≡ bytes_or_none (shown_by s board.now.exchange.posted hashes.now name.now)) }
 {
@@ -105,8 +102,7 @@ pub(crate) fn shown_strings<H: Hash32 + Drop>(
     hashes: &[(Name, [u8; 32])],
     names: &[Name],
 ) -> Result<Seq<Bytes>, OutOfMemory>
-    requires clear { evidence_of (H.digest_of trail.now.hasher) trail.now.messages ≡ None }
-    requires posted { ArePostsHashed (world_of board.now trail.now.messages) }
+    requires playable { IsPlayable (setup_of (H.digest_of trail.now.hasher) board.now) board.now trail.now.messages }
     ensures { let s = setup_of (H.digest_of trail.now.hasher) board.now in
         IfOk result (λ strings. strings ≡ map (λ name. bytes_or_none (shown_by s board.now.exchange.posted hashes.now name)) names.now) }
 {

@@ -1,36 +1,15 @@
 -- The opening of a run.
-use Rattle.std.proofs.Common.{◌≡◌, ℕ, List, [], ◌∷◌, ◌++◌, map, Bool, true, false, cond, Some, refl, sym, ap, ◌∙◌, subst, append_assoc}
-use Rattle.std.specs.List.{find}
-use Rattle.std.specs.Str.{bytes_eq}
-use Rattle.theory_calculus.proofs.Names.{bytes-true}
-use Rattle.spec_bitcoin.specs.Keys.{pay_to}
+use Rattle.std.proofs.Common.{◌≡◌, ℕ, List, [], ◌++◌, subst, append_assoc}
 use Rattle.spec_bitcoin.specs.Digests.{txid_strings, opening_transaction}
-use Rattle.spec_compiler.specs.Transactions.{party_script}
 use Rattle.spec_run.specs.declared.header.Header.{Header}
 use Rattle.spec_run.specs.Setup.{Setup}
 use Rattle.spec_run.specs.Event.{opening_outputs, opening_strings}
 use Rattle.bm_hash.specs.declared.messages.TrailError.{TrailError}
 use Rattle.bm_hash.specs.Trails.{Hashed, Stops}
 use Rattle.bm_hash.proofs.HashesLemmas.{Stops-first}
-use Rattle.bm_world_board.specs.declared.accounts.Account.{Account}
-use Rattle.bm_world_board.specs.Accounts.{account_of, opening_labels, opening_scripts}
+use Rattle.bm_world_board.specs.Accounts.{opening_labels, opening_scripts}
 use Rattle.bm_hash.proofs.Chains.{hashed_then, stops_then}
 use Rattle.bm_world_opening.specs.Opening.{setup_with}
-
--- what the account of a party that was found pays to
-pub found_account : (hash : List ℕ → List ℕ) (parties : List (List ℕ)) (party : List ℕ) (a : Account)
-    → find (λ (x : Account). bytes_eq x.party party) (map (account_of hash) parties) ≡ Some a → a.pays ≡ pay_to (hash (party_script hash party))
-found_account hash [] party a h = cc
-found_account hash (p ∷ ps) party a h = by_name (bytes_eq p party) refl h (found_account hash ps party a)
-  where
-    by_name : (b : Bool) → bytes_eq p party ≡ b
-        → cond b (Some (account_of hash p)) (find (λ (x : Account). bytes_eq x.party party) (map (account_of hash) ps)) ≡ Some a
-        → (find (λ (x : Account). bytes_eq x.party party) (map (account_of hash) ps) ≡ Some a → a.pays
-        ≡ pay_to (hash (party_script hash party))) → a.pays ≡ pay_to (hash (party_script hash party))
-    by_name true e k later =
-        let same : account_of hash p ≡ a = cc in
-        ap (λ (x : Account). x.pays) (sym same) ∙ ap (λ q. pay_to (hash (party_script hash q))) (bytes-true p party e)
-    by_name false e k later = later k
 
 -- ---- what is hashed
 

@@ -1,14 +1,15 @@
 //! The opening of a run.
 
-ghost use Rattle.std.specs.Prelude.{◌≡◌, ◌≤◌, ℕ, List, [], length, map, None, IfOk};
-ghost use Rattle.std.specs.List.{AllByRecursion};
-ghost use Rattle.spec_data.specs.Ranges.{most_header_deposits, most_contracts};
+ghost use Rattle.std.specs.Prelude.{◌≡◌, ◌≤◌, ℕ, List, [], true, length, map, None, IfOk, OnOk};
+ghost use Rattle.std.specs.List.{All, AllByRecursion};
+ghost use Rattle.spec_data.specs.Ranges.{most_contracts};
 ghost use Rattle.spec_terms.specs.Faults.{IsWellFormed};
 ghost use Rattle.bm_hash.specs.Messages.{evidence_of};
 ghost use Rattle.bm_hash.specs.Trails.{Hashes};
 ghost use Rattle.spec_bitcoin.specs.Digests as digests;
+ghost use Rattle.spec_run.specs.Conditions.{IsHeader};
 ghost use Rattle.spec_run.specs.Event as run;
-ghost use Rattle.bm_world_board.specs.Accounts.{account_of};
+ghost use Rattle.bm_world_board.specs.Accounts.{has_account, account_of};
 ghost use Rattle.bm_world_board.specs.Secrets.{secret_strings};
 ghost use Rattle.bm_world_opening.specs.Opening.{setup_with, opening_output, opening_coins, none_compiled, IsOpenedWith, IsOpened};
 
@@ -17,28 +18,25 @@ use bm_compile::Compiled;
 use bm_exchange::{Exchange, Strings};
 use bm_hash::{Hash32, Trail, TrailError};
 use bm_wellformed::Checked;
-use bm_world_board::{Account, Board, account_at, accounts_of};
+use bm_world_board::{Account, Board, accounts_of, declared_account};
 use bm_world_coins::Coins;
 use spec_bitcoin::TxOut;
 use spec_data::{Bytes, Name, OutOfMemory, Seq};
 use spec_run::{Header, HeldSecret};
-use std::alloc::{AllocError, Global};
+use std::alloc::Global;
 
-// The output of a deposit of the header. Its owner is declared; where it weren't, memory would be said to be short.
+// The output of a deposit of the header.
 fn output_of(
     alloc: Global,
     accounts: &[Account],
     deposit: &(Name, u64),
 ) -> Result<TxOut, OutOfMemory>
+    requires { has_account accounts.now (deposit.now.0) ≡ true }
     ensures { IfOk result (λ o. (hash : List ℕ → List ℕ) (parties : List (List ℕ)) → accounts.now ≡ map (account_of hash) parties → o ≡ opening_output hash deposit.now) }
 {
-    match account_at(accounts, &deposit.0) {
-        Some(account) => {
-            let output = paying(alloc, account, deposit.1)?;
-            Ok(output)
-        }
-        None => Err(AllocError),
-    }
+    let account = declared_account(accounts, &deposit.0);
+    let output = paying(alloc, account, deposit.1)?;
+    Ok(output)
 }
 
 // An output that pays so many satoshi to the account.
@@ -57,6 +55,7 @@ fn outputs_of(
     accounts: &[Account],
     deposits: &[(Name, u64)],
 ) -> Result<Seq<TxOut>, OutOfMemory>
+    requires { All (λ d. has_account accounts.now (d.0) ≡ true) deposits.now }
     ensures { IfOk result (λ os. (hash : List ℕ → List ℕ) (parties : List (List ℕ)) → accounts.now ≡ map (account_of hash) parties → os ≡ map (opening_output hash) deposits.now) }
 {
     let mut outputs = Seq::new(alloc);
@@ -74,7 +73,7 @@ fn coins_of<H: Hash32 + Drop>(
     accounts: &[Account],
     header: &Header,
 ) -> Result<Coins, TrailError>
-    requires few { length header.now.deposits ≤ most_header_deposits }
+    requires header { IsHeader header.now }
     requires accounts { accounts.now ≡ map (account_of (H.digest_of trail.old.hasher)) header.now.parties }
     requires clear { evidence_of (H.digest_of trail.old.hasher) trail.old.messages ≡ None }
     ensures coins { IfOk result (λ c. c ≡ opening_coins (setup_with (H.digest_of trail.old.hasher) header.now [])) }
@@ -91,7 +90,7 @@ fn open_coins<H: Hash32 + Drop>(
     trail: &mut Trail<H>,
     header: &Header,
 ) -> Result<(Seq<Account>, Coins), TrailError>
-    requires few { length header.now.deposits ≤ most_header_deposits }
+    requires header { IsHeader header.now }
     requires clear { evidence_of (H.digest_of trail.old.hasher) trail.old.messages ≡ None }
     ensures opened { IfOk result (λ p. IsOpenedWith (setup_with (H.digest_of trail.old.hasher) header.now []) (p.0) (p.1)) }
     ensures trail { Hashes H.digest_of trail.old trail.new (run.opening_strings (setup_with (H.digest_of trail.old.hasher) header.now [])) result }
@@ -101,21 +100,14 @@ fn open_coins<H: Hash32 + Drop>(
     Ok((accounts, coins))
 }
 
-// Each of the contracts has passed the check.
-fn look_at(contracts: &[Checked])
-    ensures { AllByRecursion IsWellFormed contracts.now }
-{
-    for contract in contracts {
-        let _advert = contract.advert();
-    }
-}
-
-// For each of the contracts that it isn't compiled.
+// For each of the contracts, which have all passed the check, that it isn't compiled.
 fn not_compiled(alloc: Global, contracts: &[Checked]) -> Result<Seq<Option<Compiled>>, OutOfMemory>
-    ensures { IfOk result (λ compiled. compiled ≡ none_compiled contracts.now) }
+    ensures compiled { IfOk result (λ compiled. compiled ≡ none_compiled contracts.now) }
+    ensures checked { OnOk result (AllByRecursion IsWellFormed contracts.now) }
 {
     let mut compiled = Seq::new(alloc);
-    for _contract in contracts {
+    for contract in contracts {
+        let _passed = contract.advert();
         compiled.push(None)?;
     }
     Ok(compiled)
@@ -140,13 +132,12 @@ pub fn open_board<H: Hash32 + Drop>(
     header: &Header,
     contracts: Vec<Checked>,
 ) -> Result<Board, TrailError>
-    requires deposits { length header.now.deposits ≤ most_header_deposits }
+    requires header { IsHeader header.now }
     requires few { length contracts.items ≤ most_contracts }
     requires clear { evidence_of (H.digest_of trail.old.hasher) trail.old.messages ≡ None }
     ensures board { IfOk result (IsOpened (setup_with (H.digest_of trail.old.hasher) header.now contracts.items)) }
     ensures trail { Hashes H.digest_of trail.old trail.new (run.opening_strings (setup_with (H.digest_of trail.old.hasher) header.now contracts.items)) result }
 {
-    look_at(&contracts);
     let compiled = not_compiled(alloc, &contracts)?;
     let copied = header.copy(alloc)?;
     let known = known_strings(alloc, header.secrets.as_slice())?;

@@ -1,12 +1,12 @@
 //! Branches of active contracts that ask a party.
 
-ghost use Rattle.std.specs.Prelude.{◌≡◌, ◌++◌, ◌∷◌, [], ℕ, List, None, IfOk, IfSome, option_map, option_to_list};
-ghost use Rattle.bm_hash.specs.Messages.{evidence_of};
+ghost use Rattle.std.specs.Prelude.{◌≡◌, ◌++◌, ◌∷◌, [], ℕ, List, IfOk, IfSome, option_map, option_to_list};
 ghost use Rattle.spec_bitcoin.specs.Keys.{key_of};
 ghost use Rattle.spec_compiler.specs.Instance.{branch_label};
 ghost use Rattle.spec_data.specs.Lists.{first_reason};
 ghost use Rattle.spec_run.specs.World.{live_position_at};
 ghost use Rattle.spec_run.specs.Signing as spec;
+ghost use Rattle.bm_world_board.specs.Playable.{IsPlayable};
 ghost use Rattle.bm_world_board.specs.Prepares.{setup_of, world_of, Prepares, Signs};
 ghost use Rattle.bm_world_sign.specs.Instances.{AllCompiled, instance_on};
 ghost use Rattle.bm_world_sign.specs.Authorising.{first_pair};
@@ -140,8 +140,7 @@ pub fn pending_authorise<H: Hash32 + Drop>(
     output: u32,
     branch: u32,
 ) -> Result<PendingChange, OutOfMemory>
-    requires clear { evidence_of (H.digest_of trail.now.hasher) trail.now.messages ≡ None }
-    requires compiled { AllCompiled (H.digest_of trail.now.hasher) board.old trail.now.messages }
+    requires playable { IsPlayable (setup_of (H.digest_of trail.now.hasher) board.old) board.old trail.now.messages }
     ensures board { Signs board.old board.new }
     ensures ok { let hash = H.digest_of trail.now.hasher in
         let messages = trail.now.messages in

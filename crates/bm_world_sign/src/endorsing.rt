@@ -1,8 +1,8 @@
 //! Endorsements: what a party signs of all that a contract needs before it begins.
 
-ghost use Rattle.std.specs.Prelude.{◌≡◌, None, IfOk};
-ghost use Rattle.bm_hash.specs.Messages.{evidence_of};
+ghost use Rattle.std.specs.Prelude.{◌≡◌, IfOk};
 ghost use Rattle.spec_run.specs.Signing as spec;
+ghost use Rattle.bm_world_board.specs.Playable.{IsPlayable};
 ghost use Rattle.bm_world_board.specs.Prepares.{setup_of, world_of, Prepares, Signs};
 ghost use Rattle.bm_world_sign.specs.Instances.{AllCompiled, instance_on};
 
@@ -42,8 +42,7 @@ pub fn pending_endorse<H: Hash32 + Drop>(
     contract: u32,
     party: &Name,
 ) -> Result<PendingChange, OutOfMemory>
-    requires clear { evidence_of (H.digest_of trail.now.hasher) trail.now.messages ≡ None }
-    requires compiled { AllCompiled (H.digest_of trail.now.hasher) board.old trail.now.messages }
+    requires playable { IsPlayable (setup_of (H.digest_of trail.now.hasher) board.old) board.old trail.now.messages }
     ensures board { Signs board.old board.new }
     ensures ok { let hash = H.digest_of trail.now.hasher in
         let messages = trail.now.messages in

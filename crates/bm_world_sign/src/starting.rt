@@ -1,11 +1,11 @@
 //! Initial transactions: what a party signs of its deposits, an honest one only once the contract is endorsed.
 
-ghost use Rattle.std.specs.Prelude.{◌≡◌, ◌++◌, ◌∷◌, [], None, IfOk, OnOk, if◌then◌else◌};
+ghost use Rattle.std.specs.Prelude.{◌≡◌, ◌++◌, ◌∷◌, [], IfOk, OnOk, if◌then◌else◌};
 ghost use Rattle.std.specs.Str.{bytes_eq};
-ghost use Rattle.bm_hash.specs.Messages.{evidence_of};
 ghost use Rattle.spec_data.specs.Lists.{first_reason};
 ghost use Rattle.spec_terms.specs.Precondition.{persistent, owners_of};
 ghost use Rattle.spec_run.specs.Signing as spec;
+ghost use Rattle.bm_world_board.specs.Playable.{IsPlayable};
 ghost use Rattle.bm_world_board.specs.Prepares.{setup_of, world_of, Prepares, Signs};
 ghost use Rattle.bm_world_sign.specs.Instances.{AllCompiled, instance_on};
 ghost use Rattle.bm_world_sign.specs.Starting as starting;
@@ -175,8 +175,7 @@ pub fn pending_init<H: Hash32 + Drop>(
     contract: u32,
     party: &Name,
 ) -> Result<PendingChange, OutOfMemory>
-    requires clear { evidence_of (H.digest_of trail.now.hasher) trail.now.messages ≡ None }
-    requires compiled { AllCompiled (H.digest_of trail.now.hasher) board.old trail.now.messages }
+    requires playable { IsPlayable (setup_of (H.digest_of trail.now.hasher) board.old) board.old trail.now.messages }
     ensures board { Signs board.old board.new }
     ensures ok { let hash = H.digest_of trail.now.hasher in
         let messages = trail.now.messages in

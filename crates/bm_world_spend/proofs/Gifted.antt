@@ -1,8 +1,7 @@
 -- The strings of a gift are those that are hashed for its digests.
 use Rattle.std.proofs.Common.{◌≡◌, ℕ, zero, suc, ◌+◌, List, [], ◌∷◌, ◌++◌, map, Bool, true, false, Option, Some, None, refl, sym, ap, ◌∙◌, cond, inl, inr}
 use Rattle.std.specs.Prelude.{slice_get, if◌then◌else◌}
-use Rattle.std.specs.List.{flat_map, find}
-use Rattle.std.specs.Str.{bytes_eq}
+use Rattle.std.specs.List.{flat_map}
 use Rattle.std.specs.Option.{option_map_or, is_none}
 use Rattle.std.proofs.lemmas.Bool.{and_parts}
 use Rattle.std.proofs.lemmas.List.Concat.{flat_map-cons}
@@ -23,7 +22,6 @@ use Rattle.spec_run.specs.Ledger.{live_from, tx_out, strings_of as ledger_string
 use Rattle.spec_run.specs.Giving.{give_row, unsigned_gift, given_pairs, gift}
 use Rattle.theory_bitcoin.specs.Apart.{bare_input, bare}
 use Rattle.theory_bitcoin.proofs.Apart.{stripped_bare}
-use Rattle.theory_calculus.proofs.Names.{bytes-true}
 use Rattle.theory_calculus.specs.Members.{Is_in}
 use Rattle.theory_world.proofs.Same.{place-true, place_refl}
 use Rattle.theory_world.proofs.Ledger.Found.{found}
@@ -32,22 +30,6 @@ use Rattle.theory_run.proofs.Events.Given.{IsGiven, is_given}
 use Rattle.bm_world_board.specs.declared.accounts.Account.{Account}
 use Rattle.bm_world_board.specs.Accounts.{account_of}
 use Rattle.bm_world_spend.specs.Gifts.{LieApart, input_of, strings_of, pair_of, signed_input, signed_tx, gift_strings, signed_world}
-
--- ---- accounts
-
--- the account of a party that was found
-pub found_account : (hash : List ℕ → List ℕ) (parties : List (List ℕ)) (party : List ℕ) (a : Account)
-    → find (λ (x : Account). bytes_eq x.party party) (map (account_of hash) parties) ≡ Some a → a ≡ account_of hash party
-found_account hash [] party a h = cc
-found_account hash (p ∷ ps) party a h = by_name (bytes_eq p party) refl h (found_account hash ps party a)
-  where
-    by_name : (b : Bool) → bytes_eq p party ≡ b
-        → cond b (Some (account_of hash p)) (find (λ (x : Account). bytes_eq x.party party) (map (account_of hash) ps)) ≡ Some a
-        → (find (λ (x : Account). bytes_eq x.party party) (map (account_of hash) ps) ≡ Some a → a ≡ account_of hash party) → a ≡ account_of hash party
-    by_name true e k later =
-        let same : account_of hash p ≡ a = cc in
-        sym same ∙ ap (account_of hash) (bytes-true p party e)
-    by_name false e k later = later k
 
 -- ---- a live output is found where it lies
 

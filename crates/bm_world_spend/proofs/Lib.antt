@@ -8,3 +8,4 @@ pub mod Kept
 pub mod Carried
 pub mod Owning
 pub mod FewInputs
+pub mod Named

@@ -1,5 +1,5 @@
 -- The transaction of a gift, by the outputs that were made, the giver's key and the script of its deposits.
-use Rattle.std.specs.Prelude.{◌≡◌, ℕ, List, [], ◌∷◌, ◌++◌, map, Option, Some, None, slice_get, if◌then◌else◌}
+use Rattle.std.specs.Prelude.{◌≡◌, ℕ, List, [], ◌∷◌, ◌++◌, map, Bool, Option, Some, None, slice_get, is_some, if◌then◌else◌}
 use Rattle.std.specs.List.{flat_map}
 use Rattle.spec_data.specs.Lists.{first_reason}
 use Rattle.spec_bitcoin.specs.declared.tx.TxIn.{TxIn}
@@ -48,6 +48,12 @@ gift_pending s w party inputs outputs = reaches s w (signed_world s w party inpu
 abbrev pub IsFreshGift : Setup → World → List ℕ → List ℕ → List (List ℕ × ℕ) → Type 0
 IsFreshGift s w party inputs outputs =
     first_reason (give_row s w party inputs outputs) ≡ None → IsFresh s (signed_world s w party inputs outputs) (gift s w party inputs outputs)
+
+-- ---- what a gift names
+
+-- whether there is an output of this number
+abbrev pub has_output : List Output → ℕ → Bool
+has_output outputs n = is_some (slice_get outputs n)
 
 -- ---- what never lies at one place
 

@@ -3,13 +3,12 @@
 ghost use Rattle.std.specs.Prelude.{◌≡◌, ◌<◌, ◌≤◌, ◌+◌, ◌^◌, length, None, IfOk, IfErr};
 ghost use Rattle.bm_hash.specs.Messages.{evidence_of};
 ghost use Rattle.bm_hash.specs.Trails.{StopsAlong};
-ghost use Rattle.spec_data.specs.Ranges.{most_contracts, most_piece_bytes};
-ghost use Rattle.spec_bitcoin.specs.declared.tx.Tx.{Tx as Transaction};
+ghost use Rattle.spec_data.specs.Ranges.{most_contracts};
 ghost use Rattle.spec_bitcoin.specs.Reading.{transaction_of};
 ghost use Rattle.spec_run.specs.Conditions.{IsPiece};
 ghost use Rattle.spec_run.specs.Event.{append_read};
-ghost use Rattle.theory_world.specs.Transactions.{IsNumbered};
 ghost use Rattle.bm_match.specs.Matches.{all_compiled};
+ghost use Rattle.bm_world_board.specs.Playable.{IsPlayable};
 ghost use Rattle.bm_world_board.specs.Prepares.{setup_of, world_of, Prepares};
 ghost use Rattle.bm_world_board.specs.Reaching.{IsFresh, reaches_in};
 ghost use Rattle.bm_world_spend.specs.Placed.{IsPlaced};
@@ -24,7 +23,7 @@ use std::alloc::Global;
 
 /// The pending effect of a transaction that reaches the ledger, where its event signs nothing.
 #[tactic(auto, using(bm_hash::proofs::HashesLemmas::stops_early))]
-pub fn pending_reaching<H: Hash32 + Drop>(
+pub(crate) fn pending_reaching<H: Hash32 + Drop>(
     alloc: Global,
     trail: &mut Trail<H>,
     board: &Board,
@@ -53,13 +52,8 @@ pub fn pending_append<H: Hash32 + Drop>(
     board: &Board,
     bytes: &[u8],
 ) -> Result<PendingChange, TrailError>
+    requires playable { IsPlayable (setup_of (H.digest_of trail.old.hasher) board.now) board.now trail.old.messages }
     requires piece { IsPiece bytes.now }
-    requires room { length board.now.coins.outputs + most_piece_bytes < 2 ^ 32 }
-    requires clear { evidence_of (H.digest_of trail.old.hasher) trail.old.messages ≡ None }
-    requires contracts { length board.now.contracts ≤ most_contracts }
-    requires compiled { board.now.compiled ≡ all_compiled (setup_of (H.digest_of trail.old.hasher) board.now) (world_of board.now trail.old.messages) }
-    requires placed { IsPlaced (setup_of (H.digest_of trail.old.hasher) board.now) (world_of board.now trail.old.messages) }
-    requires fresh { (tx : Transaction) → IsNumbered tx → IsFresh (setup_of (H.digest_of trail.old.hasher) board.now) (world_of board.now trail.old.messages) tx }
     ensures hasher { trail.new.hasher ≡ trail.old.hasher }
     ensures ok { IfOk result (Prepares (H.digest_of trail.old.hasher) (world_of board.now trail.old.messages) trail.old.messages trail.new.messages (append_read (setup_of (H.digest_of trail.old.hasher) board.now) (world_of board.now trail.old.messages) (transaction_of bytes.now))) }
     ensures err { IfErr result (StopsAlong H.digest_of trail.old trail.new ((append_read (setup_of (H.digest_of trail.old.hasher) board.now) (world_of board.now trail.old.messages) (transaction_of bytes.now)).hashes)) }

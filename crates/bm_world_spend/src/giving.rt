@@ -1,39 +1,26 @@
 //! Gifts.
 
-ghost use Rattle.std.specs.Prelude.{◌≡◌, ◌≤◌, ◌<◌, ◌+◌, ◌^◌, ℕ, List, [], None, Some, map, length, take, is_some, if◌then◌else◌, IfOk, IfErr, OnOk};
+ghost use Rattle.std.specs.Prelude.{◌≡◌, ◌≤◌, ◌<◌, ◌^◌, None, length, take, is_some, if◌then◌else◌, IfOk, IfErr, OnOk};
 ghost use Rattle.spec_data.specs.Lists.{first_reason};
-ghost use Rattle.spec_data.specs.Ranges.{most_contracts};
-ghost use Rattle.bm_hash.specs.Messages.{evidence_of};
 ghost use Rattle.bm_hash.specs.Trails.{Hashes, StopsAlong};
 ghost use Rattle.spec_bitcoin.specs.Keys.{Pair};
 ghost use Rattle.spec_compiler.specs.Transactions.{party_script};
 ghost use Rattle.spec_run.specs.Signing.{signed_all};
+ghost use Rattle.spec_run.specs.Conditions.{IsGift};
 ghost use Rattle.spec_run.specs.Giving as spec;
-ghost use Rattle.bm_match.specs.Matches.{all_compiled};
-ghost use Rattle.bm_world_board.specs.Accounts.{account_of};
 ghost use Rattle.bm_world_board.specs.Prepares.{setup_of, world_of, tx_in, Prepares, Signs, IsPrefix};
-ghost use Rattle.bm_world_spend.specs.Placed.{IsPlaced};
-ghost use Rattle.bm_world_spend.specs.Gifts.{LieApart, IsFreshGift, gift_pending, gift_strings};
+ghost use Rattle.bm_world_board.specs.Playable.{IsPlayable};
+ghost use Rattle.bm_world_spend.specs.Gifts.{gift_pending, gift_strings};
 
 use crate::appending::pending_reaching;
 use crate::gifts::{bare_gift, signed_gift};
 use crate::refusing::give_refusal;
 use bm_book::Book;
 use bm_hash::{Hash32, Trail, TrailError};
-use bm_world_board::{Account, Board, Change, PendingChange, account_at};
+use bm_world_board::{Board, Change, PendingChange, declared_account};
 use spec_bitcoin::Tx;
-use spec_data::{Name, OutOfMemory};
-use std::alloc::{AllocError, Global};
-
-// The account of the giver. It is declared; where it weren't, memory would be said to be short.
-fn giver(accounts: &[Account], party: &Name) -> Result<Account, OutOfMemory>
-    ensures { IfOk result (λ a. (hash : List ℕ → List ℕ) (parties : List (List ℕ)) → accounts.now ≡ map (account_of hash) parties → a ≡ account_of hash party.now) }
-{
-    match account_at(accounts, party) {
-        Some(account) => Ok(*account),
-        None => Err(AllocError),
-    }
-}
+use spec_data::Name;
+use std::alloc::Global;
 
 // The gift with its signatures, whose pairs are then in the book. It hashes the strings of the transaction.
 fn sign_gift<H: Hash32 + Drop>(
@@ -44,14 +31,15 @@ fn sign_gift<H: Hash32 + Drop>(
     inputs: &[u32],
     outputs: &[(Name, u64)],
 ) -> Result<Tx, TrailError>
-    requires clear { evidence_of (H.digest_of trail.old.hasher) trail.old.messages ≡ None }
-    requires accounts { board.old.accounts ≡ map (account_of (H.digest_of trail.old.hasher)) board.old.header.parties }
+    requires playable { IsPlayable (setup_of (H.digest_of trail.old.hasher) board.old) board.old trail.old.messages }
+    requires gift { IsGift (setup_of (H.digest_of trail.old.hasher) board.old) party.now inputs.now outputs.now }
+    requires passed { first_reason (spec.give_row (setup_of (H.digest_of trail.old.hasher) board.old) (world_of board.old trail.old.messages) party.now inputs.now outputs.now) ≡ None }
     ensures tx { IfOk result (λ tx. tx ≡ spec.gift (setup_of (H.digest_of trail.old.hasher) board.old) (world_of board.old trail.old.messages) party.now inputs.now outputs.now) }
     ensures pairs { OnOk result (board.new.book ≡ signed_all board.old.book (spec.given_pairs (setup_of (H.digest_of trail.old.hasher) board.old) (world_of board.old trail.old.messages) party.now inputs.now outputs.now)) }
     ensures board { Signs board.old board.new }
     ensures trail { Hashes H.digest_of trail.old trail.new (gift_strings (H.digest_of trail.old.hasher) board.old.coins.outputs (party_script (H.digest_of trail.old.hasher) party.now) (spec.unsigned_gift (setup_of (H.digest_of trail.old.hasher) board.old) (world_of board.old trail.old.messages) inputs.now outputs.now) inputs.now) result }
 {
-    let account = giver(board.accounts.as_slice(), party)?;
+    let account = *declared_account(board.accounts.as_slice(), party);
     let bare = bare_gift(
         alloc,
         &board.coins,
@@ -100,16 +88,10 @@ fn pending_gift<H: Hash32 + Drop>(
     inputs: &[u32],
     outputs: &[(Name, u64)],
 ) -> Result<PendingChange, TrailError>
+    requires playable { IsPlayable (setup_of (H.digest_of trail.old.hasher) board.old) board.old trail.old.messages }
+    requires gift { IsGift (setup_of (H.digest_of trail.old.hasher) board.old) party.now inputs.now outputs.now }
     requires few { length inputs.now < 2 ^ 32 }
-    requires room { length board.old.coins.outputs + length outputs.now < 2 ^ 32 }
-    requires clear { evidence_of (H.digest_of trail.old.hasher) trail.old.messages ≡ None }
-    requires contracts { length board.old.contracts ≤ most_contracts }
-    requires accounts { board.old.accounts ≡ map (account_of (H.digest_of trail.old.hasher)) board.old.header.parties }
-    requires compiled { board.old.compiled ≡ all_compiled (setup_of (H.digest_of trail.old.hasher) board.old) (world_of board.old trail.old.messages) }
-    requires placed { IsPlaced (setup_of (H.digest_of trail.old.hasher) board.old) (world_of board.old trail.old.messages) }
-    requires apart { LieApart (world_of board.old trail.old.messages) }
     requires passed { first_reason (spec.give_row (setup_of (H.digest_of trail.old.hasher) board.old) (world_of board.old trail.old.messages) party.now inputs.now outputs.now) ≡ None }
-    requires fresh { IsFreshGift (setup_of (H.digest_of trail.old.hasher) board.old) (world_of board.old trail.old.messages) party.now inputs.now outputs.now }
     ensures hasher { trail.new.hasher ≡ trail.old.hasher }
     ensures board { Signs board.old board.new }
     ensures ok { IfOk result (Prepares (H.digest_of trail.old.hasher) (world_of board.new trail.old.messages) trail.old.messages trail.new.messages (gift_pending (setup_of (H.digest_of trail.old.hasher) board.old) (world_of board.old trail.old.messages) party.now inputs.now outputs.now)) }
@@ -131,14 +113,8 @@ pub fn pending_give<H: Hash32 + Drop>(
     inputs: &[u32],
     outputs: &[(Name, u64)],
 ) -> Result<PendingChange, TrailError>
-    requires room { length board.old.coins.outputs + length outputs.now < 2 ^ 32 }
-    requires clear { evidence_of (H.digest_of trail.old.hasher) trail.old.messages ≡ None }
-    requires contracts { length board.old.contracts ≤ most_contracts }
-    requires accounts { board.old.accounts ≡ map (account_of (H.digest_of trail.old.hasher)) board.old.header.parties }
-    requires compiled { board.old.compiled ≡ all_compiled (setup_of (H.digest_of trail.old.hasher) board.old) (world_of board.old trail.old.messages) }
-    requires placed { IsPlaced (setup_of (H.digest_of trail.old.hasher) board.old) (world_of board.old trail.old.messages) }
-    requires apart { LieApart (world_of board.old trail.old.messages) }
-    requires fresh { IsFreshGift (setup_of (H.digest_of trail.old.hasher) board.old) (world_of board.old trail.old.messages) party.now inputs.now outputs.now }
+    requires playable { IsPlayable (setup_of (H.digest_of trail.old.hasher) board.old) board.old trail.old.messages }
+    requires gift { IsGift (setup_of (H.digest_of trail.old.hasher) board.old) party.now inputs.now outputs.now }
     ensures hasher { trail.new.hasher ≡ trail.old.hasher }
     ensures board { Signs board.old board.new }
     ensures ok { IfOk result (Prepares (H.digest_of trail.old.hasher) (world_of board.new trail.old.messages) trail.old.messages trail.new.messages (spec.give_pending (setup_of (H.digest_of trail.old.hasher) board.old) (world_of board.old trail.old.messages) party.now inputs.now outputs.now)) }

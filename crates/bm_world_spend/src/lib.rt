@@ -8,6 +8,6 @@ mod giving;
 mod purposes;
 mod refusing;
 
-pub use appending::{pending_append, pending_reaching};
+pub use appending::pending_append;
 pub use giving::pending_give;
-pub use purposes::{choice_of, purpose};
+pub use purposes::choice_of;

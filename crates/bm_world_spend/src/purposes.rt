@@ -164,7 +164,7 @@ fn begun_by(matched: &Match) -> Option<u32>
 }
 
 /// What a transaction is to the contracts: what its outputs stand for, and the contract that it begins.
-pub fn purpose(alloc: Global, board: &Board, tx: &Tx) -> Result<Purpose, OutOfMemory>
+pub(crate) fn purpose(alloc: Global, board: &Board, tx: &Tx) -> Result<Purpose, OutOfMemory>
     requires few { length board.now.compiled < 2 ^ 32 }
     ensures { IfOk result (λ p. (hash : List ℕ → List ℕ) (messages : List (List ℕ))
         → board.now.compiled ≡ all_compiled (setup_of hash board.now) (world_of board.now messages)

@@ -4,6 +4,7 @@ use Rattle.spec_bitcoin.specs.Digests.{txid_strings, opening_transaction}
 use Rattle.spec_run.specs.Event.{opening_outputs}
 use Rattle.bm_hash.specs.Trails.{Hashed}
 use Rattle.bm_world_opening.specs.Opening.{setup_with}
+use Rattle.bm_world_board.proofs.Naming.{accounts_there}
 use Rattle.bm_world_opening.proofs.opening.coins_of.Goals as goal
 
 pub returns-clause-trail : goal.returns-clause-trail
@@ -17,3 +18,8 @@ returns-clause-trail g c =
           (txid_strings (g.H.Hash32.digest_of c.args.trail.now.hasher) (opening_transaction os))) made hashed,
       tt,
     )
+
+pub outputs_of-requires : goal.outputs_of-requires
+outputs_of-requires g c =
+    let h = c.args.header.now in
+    rw c.as_slice.ensures (accounts_there (g.H.Hash32.digest_of c.args.trail.now.hasher) h.parties _ c.requires.accounts h.deposits c.requires.header.depositors)

@@ -9,7 +9,7 @@ returns-in-Some-clause-ok g c =
     let hash = g.H.Hash32.digest_of c.args.trail.now.hasher in
     let messages = c.args.trail.now.messages in
     prepares_refused hash (world_of c.args.board.now messages) messages _ c.in-Some.reason _ _
-    (sym (c.authorise_refusal.ensures hash messages) ∙ c.in-Some.is) c.refused.ensures.same c.refused.ensures.change c.requires.clear
+    (sym (c.authorise_refusal.ensures hash messages) ∙ c.in-Some.is) c.refused.ensures.same c.refused.ensures.change c.requires.playable.clear
 
 pub returns-clause-ok : goal.returns-clause-ok
 returns-clause-ok g c =
@@ -18,4 +18,4 @@ returns-clause-ok g c =
     prepares_passed hash _ (world_of c.args.board.now messages) messages messages _ [] _ _
     (sym (c.authorise_refusal.ensures hash messages) ∙ c.in_default.is)
     (rw (as_listed c.in_ok-pair.pair c.as_slice.result.now c.as_slice.ensures, c.in_ok-pair.ensures) at
-    (c.in_ok-pending_change.ensures.ok hash messages c.requires.clear))
+    (c.in_ok-pending_change.ensures.ok hash messages c.requires.playable.clear))

@@ -8,7 +8,7 @@ returns-in-Some-clause-ok g c =
     let hash = g.H.Hash32.digest_of c.args.trail.now.hasher in
     let messages = c.args.trail.now.messages in
     prepares_refused hash (world_of c.args.board.now messages) messages _ c.in-Some.reason _ _
-    (sym c.in_ok-refusal.ensures ∙ c.in-Some.is) c.refused.ensures.same c.refused.ensures.change c.requires.clear
+    (sym c.in_ok-refusal.ensures ∙ c.in-Some.is) c.refused.ensures.same c.refused.ensures.change c.requires.playable.clear
 
 pub returns-clause-ok : goal.returns-clause-ok
 returns-clause-ok g c =
@@ -16,4 +16,4 @@ returns-clause-ok g c =
     let messages = c.args.trail.now.messages in
     prepares_passed hash _ (world_of c.args.board.now messages) messages messages _ [] _ _
     (sym c.in_ok-refusal.ensures ∙ c.in_default.is)
-    (rw (c.deref.ensures.value, c.in_ok-pairs.ensures) at (c.in_ok-pending_change.ensures.ok hash messages c.requires.clear))
+    (rw (c.deref.ensures.value, c.in_ok-pairs.ensures) at (c.in_ok-pending_change.ensures.ok hash messages c.requires.playable.clear))

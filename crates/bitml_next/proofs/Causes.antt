@@ -15,8 +15,9 @@ use Rattle.spec_text.specs.Refusals.{Judged}
 use Rattle.spec_tool.specs.Reads.{Text}
 use Rattle.spec_tool.specs.Commands.{JudgedAll, ending_status, both_judged, setup_of}
 use Rattle.spec_tool.specs.Answers.{contract_in, contracts_in, run_in, unless_stopped, if_whole}
+use Rattle.spec_next.specs.declared.form.Form.{Form}
 use Rattle.spec_next.specs.Foreseen.{foreseen_collision, unless_collided, next_printed}
-use Rattle.spec_next.specs.OutlookText.{next_text}
+use Rattle.spec_next.specs.Forms.{next_text}
 use Rattle.spec_next.specs.NextAnswer.{begins_judged, next_texts}
 use Rattle.theory_run.proofs.Halting.Halts.{calm_is, collides}
 use Rattle.theory_tool.specs.Runs.{IsGuessing, IsUnhalted}
@@ -28,7 +29,7 @@ use Rattle.bitml_next.specs.Causes.{asked_strings, Collision, NoHalt, AllIsWell,
 
 -- ---- after a run
 
-module _ (party : Option (List ℕ)) (s : Setup) (es : List Event) where
+module _ (form : Form) (party : Option (List ℕ)) (s : Setup) (es : List Event) where
   causes_differ : Different (NoHalt s es) (IsGuessing s es) (Collision s es)
   causes_differ = record {
     whole_guess = λ u g. unhalted_or_guess u.0 g;
@@ -49,12 +50,12 @@ module _ (party : Option (List ℕ)) (s : Setup) (es : List Event) where
       guess_or g (inr c) = unhalted_or_guess c.0 g
 
   asked_after : opening_collision s ≡ None → IsUnhalted s es
-      → Outcome (NoHalt s es) (IsGuessing s es) (Collision s es) (next_printed party s es).status
+      → Outcome (NoHalt s es) (IsGuessing s es) (Collision s es) (next_printed form party s es).status
   unfolding next_printed
   asked_after opens u = by_pair (foreseen_collision s (last_configuration s es) (last_world s es)) refl
     where
       by_pair : (o : Option (List ℕ × List ℕ)) → foreseen_collision s (last_configuration s es) (last_world s es) ≡ o
-          → Outcome (NoHalt s es) (IsGuessing s es) (Collision s es) (unless_collided o (next_text party s es)).status
+          → Outcome (NoHalt s es) (IsGuessing s es) (Collision s es) (unless_collided o (next_text form party s es)).status
       by_pair None h = is_whole refl (u, calm_is s.hash (last_world s es).hashed (asked_strings s es) (last_clear s es opens) h)
       by_pair (Some pair) h = is_collision refl (inr (
         u,
@@ -66,16 +67,16 @@ module _ (party : Option (List ℕ)) (s : Setup) (es : List Event) where
       ))
 
   ends_so : (e : Ending) → ending s es ≡ e
-      → Outcome (NoHalt s es) (IsGuessing s es) (Collision s es) (unless_stopped (ending_status e) e (next_printed party s es)).status
+      → Outcome (NoHalt s es) (IsGuessing s es) (Collision s es) (unless_stopped (ending_status e) e (next_printed form party s es)).status
   ends_so (whole tip live g offers) h =
       let zero : ending_status (ending s es) ≡ 0 = ap ending_status h in
       asked_after (opens_calmly s es zero) ((run_exactly s es).whole.0 zero)
   ends_so (guessed event party secret) h = is_guess refl ((run_exactly s es).guess.0 (ap ending_status h))
   ends_so (collided event earlier later) h = is_collision refl (inl ((run_exactly s es).collision.0 (ap ending_status h)))
 
-  run_causes : Exactly (NoHalt s es) (IsGuessing s es) (Collision s es) (if_whole (next_printed party) s es).status
+  run_causes : Exactly (NoHalt s es) (IsGuessing s es) (Collision s es) (if_whole (next_printed form party) s es).status
   run_causes =
-      exactly (NoHalt s es) (IsGuessing s es) (Collision s es) (if_whole (next_printed party) s es).status causes_differ
+      exactly (NoHalt s es) (IsGuessing s es) (Collision s es) (if_whole (next_printed form party) s es).status causes_differ
       (ends_so (ending s es) refl)
 
 -- ---- after the files
@@ -109,7 +110,7 @@ not_false e = false≢true (sym e)
 wider : (a b c x y : Bool) → (a || (b || (c || false))) ≡ true → (a || (x || (y || (b || (c || false))))) ≡ true
 wider a b c x y h = grind arith
 
-module _ (hash : List ℕ → List ℕ) (party : Option (List ℕ)) where
+module _ (hash : List ℕ → List ℕ) (form : Form) (party : Option (List ℕ)) where
   refused_run : (D E : Type 0) → (D → ⊥) → (E → ⊥) → (B : Type 0) → (B → ⊥) → ByCauses ⊥ B (true ≡ true) D E six
   refused_run D E no_d no_e B no_b = record {
     whole = neither_is six 0 ⊥ (λ e. omega (arith, e)) (λ x. x);
@@ -133,10 +134,10 @@ module _ (hash : List ℕ → List ℕ) (party : Option (List ℕ)) where
 
   played_run : (s : Setup) (es : List Event)
       → ByCauses (NoHalt s es) ((false ≡ false) × (false ≡ true)) (false ≡ true) (IsGuessing s es) (Collision s es)
-      (if_whole (next_printed party) s es).status
+      (if_whole (next_printed form party) s es).status
   played_run s es =
-      let n = (if_whole (next_printed party) s es).status in
-      let x = run_causes party s es in
+      let n = (if_whole (next_printed form party) s es).status in
+      let x = run_causes form party s es in
       record {
         whole = x.whole;
         contract = neither_is n 1 ((false ≡ false) × (false ≡ true)) (apart 1 (0 ∷ (7 ∷ (8 ∷ []))) refl n x.few) (λ b. false≢true b.1);
@@ -149,7 +150,7 @@ module _ (hash : List ℕ → List ℕ) (party : Option (List ℕ)) where
   of_files : (run : Judged Run) (contracts : JudgedAll)
       → ByCauses (PlaysFiles hash NoHalt run contracts) ((is_err run ≡ false) × (is_err contracts ≡ true)) (is_err run ≡ true)
       (PlaysFiles hash IsGuessing run contracts) (PlaysFiles hash Collision run contracts)
-      (both_judged (if_whole (next_printed party)) hash run contracts).status
+      (both_judged (if_whole (next_printed form party)) hash run contracts).status
   of_files (Err why) contracts = refused_run ⊥ ⊥ (λ x. x) (λ x. x) ((true ≡ false) × (is_err contracts ≡ true)) (λ b. not_false b.0)
   of_files (Ok run) (Err refusal) = refused_contract ⊥ ⊥ ⊥ (λ x. x) (λ x. x) (λ x. x)
   of_files (Ok run) (Ok adverts) = played_run (setup_of hash run adverts) run.events
@@ -170,7 +171,7 @@ module _ (hash : List ℕ → List ℕ) (party : Option (List ℕ)) where
   of_texts : (first : Text) (more : List Text)
       → ByCauses (AllIsWell hash (first ∷ more)) ((is_run_refused (first ∷ more) ≡ false) × (is_contract_refused (first ∷ more) ≡ true))
       (is_run_refused (first ∷ more) ≡ true) (Plays hash IsGuessing (first ∷ more)) (Plays hash Collision (first ∷ more))
-      (next_texts hash party (first ∷ more)).status
+      (next_texts hash form party (first ∷ more)).status
   of_texts contract [] = of_contract (contract_in contract)
   of_texts run (contract ∷ contracts) = of_files (run_in run) (contracts_in 0 (contract ∷ contracts))
 
@@ -178,7 +179,7 @@ module _ (hash : List ℕ → List ℕ) (party : Option (List ℕ)) where
   abbrev two : ℕ
   two = 2
 
-  pub causes : (texts : List Text) → HasCauses hash texts (next_texts hash party texts).status
+  pub causes : (texts : List Text) → HasCauses hash texts (next_texts hash form party texts).status
   causes [] = record {
     whole = neither_is two 0 ⊥ (λ e. omega (arith, e)) (λ x. x);
     contract_refused = neither_is two 1 ((false ≡ false) × (false ≡ true)) (λ e. omega (arith, e)) (λ b. false≢true b.1);
@@ -192,5 +193,5 @@ module _ (hash : List ℕ → List ℕ) (party : Option (List ℕ)) where
 
   -- texts of files are answered with one of these
   pub known : (first : Text) (more : List Text)
-      → has_number (next_texts hash party (first ∷ more)).status (0 ∷ (1 ∷ (6 ∷ (7 ∷ (8 ∷ []))))) ≡ true
+      → has_number (next_texts hash form party (first ∷ more)).status (0 ∷ (1 ∷ (6 ∷ (7 ∷ (8 ∷ []))))) ≡ true
   known first more = (of_texts first more).few

@@ -10,9 +10,9 @@ use Rattle.bitml_next.specs.declared.call.NextCall.{NextCall}
 
 pub few_files : (c : NextCommand) → HasFew (Some c) → length (next_files c) ≤ most_contracts + 1
 few_files (begins contract) h = omega arith
-few_files (continues party run contracts) h =
+few_files (continues form party run contracts) h =
     let e = length-map contracts contract_file in
-    let n : length (next_files (continues party run contracts)) ≡ suc (length (map contract_file contracts)) = refl in
+    let n : length (next_files (continues form party run contracts)) ≡ suc (length (map contract_file contracts)) = refl in
     omega (arith, e, n, h)
 
 -- of the call that words are, if they are one

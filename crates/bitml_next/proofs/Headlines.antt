@@ -1,11 +1,12 @@
 -- An answer has its causes.
-use Rattle.std.proofs.Common.{◌≡◌, ℕ, Bool, true, false, List, [], ◌∷◌, Option, Some, None, refl, sym, inl, inr, ◌∙◌, length, map, option_map, arith}
+use Rattle.std.proofs.Common.{◌≡◌, ℕ, true, List, [], ◌∷◌, Option, Some, None, refl, sym, inl, inr, ◌∙◌, map, option_map, arith}
 use Rattle.std.proofs.lemmas.Bool.{false≢true}
 use Rattle.spec_data.specs.Digits.{onto}
 use Rattle.spec_run.specs.Conditions.{HashesBytes}
 use Rattle.spec_tool.specs.Reads.{Asked, Read, Text, text_read, texts_read, are_made}
 use Rattle.spec_tool.specs.Commands.{contract_file, run_file}
-use Rattle.spec_next.specs.NextAnswer.{NextCommand, begins, continues, next_files, next_words, next_answer, next_texts, party_of, read_next}
+use Rattle.spec_next.specs.declared.form.Form.{Form}
+use Rattle.spec_next.specs.NextAnswer.{NextCommand, begins, continues, next_files, next_words, next_answer, next_texts, form_of, party_of, read_next}
 use Rattle.theory_tool.proofs.Statuses.{apart}
 use Rattle.tool_shell.specs.Around.{Around}
 use Rattle.tool_shell.specs.Answered.{GivesUp}
@@ -35,7 +36,7 @@ files_there file files (read ∷ reads) h = onto_there (text_read read) (texts_r
 
 texts_there : (command : NextCommand) (reads : List Read) → are_made (next_files command) reads ≡ true → IsThere (texts_read reads)
 texts_there (begins contract) reads h = files_there (contract_file contract) [] reads h
-texts_there (continues party run contracts) reads h = files_there (run_file run) (map contract_file contracts) reads h
+texts_there (continues form party run contracts) reads h = files_there (run_file run) (map contract_file contracts) reads h
 
 -- ---- the status of an answer
 
@@ -57,13 +58,13 @@ abbrev three : ℕ
 three = 3
 
 of_texts : (hash : List ℕ → List ℕ) (command : NextCommand) (reads : List Read) (o : Option (List Text)) → texts_read reads ≡ o → IsThere o
-    → Status (Some command) reads (read_next hash (party_of command) o).status
+    → Status (Some command) reads (read_next hash (form_of command) (party_of command) o).status
 of_texts hash command reads None e h =
     record { usage = λ n. absurd (omega (arith, n)); unread = λ n. e; written = λ n. omega (arith, n); memory = λ n. omega (arith, n) }
 of_texts hash command reads (Some []) e h = absurd h
 of_texts hash command reads (Some (first ∷ more)) e h =
-    let n = (next_texts hash (party_of command) (first ∷ more)).status in
-    let k = known hash (party_of command) first more in
+    let n = (next_texts hash (form_of command) (party_of command) (first ∷ more)).status in
+    let k = known hash (form_of command) (party_of command) first more in
     record {
       usage = λ q. absurd (apart 2 numbers refl n k q);
       unread = λ q. absurd (apart 3 numbers refl n k q);
@@ -77,13 +78,14 @@ of_reads hash None reads made =
     record { usage = λ n. refl; unread = λ n. absurd (omega (arith, n)); written = λ n. omega (arith, n); memory = λ n. omega (arith, n) }
 of_reads hash (Some command) reads made = of_texts hash command reads (texts_read reads) refl (texts_there command reads made)
 
-caused_by : (hash : List ℕ → List ℕ) (party : Option (List ℕ)) (o : Option (List Text)) → CausedByTexts hash o (read_next hash party o)
-caused_by hash party None = (refl, refl)
-caused_by hash party (Some texts) = causes hash party texts
+caused_by : (hash : List ℕ → List ℕ) (form : Form) (party : Option (List ℕ)) (o : Option (List Text))
+    → CausedByTexts hash o (read_next hash form party o)
+caused_by hash form party None = (refl, refl)
+caused_by hash form party (Some texts) = causes hash form party texts
 
 caused : (hash : List ℕ → List ℕ) (command : Option NextCommand) (reads : List Read) → Caused hash command reads (next_answer hash command reads)
 caused hash None reads = refl
-caused hash (Some command) reads = caused_by hash (party_of command) (texts_read reads)
+caused hash (Some command) reads = caused_by hash (form_of command) (party_of command) (texts_read reads)
 
 -- ---- the call
 

@@ -24,9 +24,10 @@ use Rattle.spec_tool.specs.Reads.{Read, Text, texts_read}
 use Rattle.spec_tool.specs.Commands.{Printed, contracts_from, onto_judged, setup_of, ending_status, both_judged}
 use Rattle.spec_tool.specs.Answers.{contracts_in, if_whole, unless_stopped}
 use Rattle.spec_tool.specs.Statements.{ValidRunTheorem}
+use Rattle.spec_next.specs.declared.form.Form.{Form}
 use Rattle.spec_next.specs.Foreseen.{foreseen_collision, unless_collided, next_printed}
-use Rattle.spec_next.specs.OutlookText.{next_text}
-use Rattle.spec_next.specs.NextAnswer.{NextCommand, party_of, begins_judged, next_answer, next_texts, read_next}
+use Rattle.spec_next.specs.Forms.{next_text}
+use Rattle.spec_next.specs.NextAnswer.{NextCommand, form_of, party_of, begins_judged, next_answer, next_texts, read_next}
 use Rattle.theory_next.specs.Candidates.{CanIsMeant, OffersAreSaid}
 use Rattle.theory_next.specs.FirstLines.{FirstLinesAreARun}
 use Rattle.theory_next.specs.FirstEvents.{FirstEventsGoThrough}
@@ -39,6 +40,7 @@ use Rattle.theory_next.specs.MetAlone.{MetAloneTheorem}
 use Rattle.theory_next.specs.Never.{NeverIsSaid}
 use Rattle.theory_next.specs.Once.{CandidatesStandOnce}
 use Rattle.theory_next.specs.Ready.{ReadyComesTheorem}
+use Rattle.theory_next.specs.Together.{LinesNameAll}
 use Rattle.theory_next.specs.Waits.{WaitsAreMeant}
 use Rattle.theory_next.specs.Requirements.{RequirementsAreExactTheorem}
 use Rattle.theory_text.proofs.Within.Adverts.{read_is_readable}
@@ -56,6 +58,7 @@ pub record Theorems : Type 0 where
   pub never : NeverIsSaid
   pub hands : HandsCountTheorem
   pub listed : NothingIsLeftOut
+  pub together : LinesNameAll
   pub leads : LeadsAreEffects
   pub last : RefusalsLast
   pub ready : ReadyComesTheorem
@@ -97,14 +100,14 @@ well_formed text a e =
 -- ---- a run that isn't halted, and whose candidates don't collide
 
 -- what a run with the status 0 shows
-record Told (party : Option (List ℕ)) (s : Setup) (es : List Event) (text : List ℕ) : Type 0 where
+record Told (form : Form) (party : Option (List ℕ)) (s : Setup) (es : List Event) (text : List ℕ) : Type 0 where
   opens : opening_collision s ≡ None
   goes_on : first_halt s es ≡ None
-  told : text ≡ next_text party s es
+  told : text ≡ next_text form party s es
 
-module _ (party : Option (List ℕ)) (s : Setup) (es : List Event) where
+module _ (form : Form) (party : Option (List ℕ)) (s : Setup) (es : List Event) where
   by_pair : (o : Option (List ℕ × List ℕ)) → opening_collision s ≡ None → first_halt s es ≡ None
-      → (unless_collided o (next_text party s es)).status ≡ 0 → Told party s es (unless_collided o (next_text party s es)).text
+      → (unless_collided o (next_text form party s es)).status ≡ 0 → Told form party s es (unless_collided o (next_text form party s es)).text
   by_pair None opens going e = record { opens = opens; goes_on = going; told = refl }
   by_pair (Some pair) opens going e = absurd (omega (arith, e))
 
@@ -116,8 +119,8 @@ module _ (party : Option (List ℕ)) (s : Setup) (es : List Event) where
   going w g None (Some (x, Collided earlier later)) e = absurd (omega (arith, e))
   going w g None (Some (x, Guessed party secret)) e = absurd (omega (arith, e))
 
-  by_ending : (e : Ending) → ending s es ≡ e → (unless_stopped (ending_status e) e (next_printed party s es)).status ≡ 0
-      → Told party s es (unless_stopped (ending_status e) e (next_printed party s es)).text
+  by_ending : (e : Ending) → ending s es ≡ e → (unless_stopped (ending_status e) e (next_printed form party s es)).status ≡ 0
+      → Told form party s es (unless_stopped (ending_status e) e (next_printed form party s es)).text
   unfolding next_printed
   by_ending (whole tip live g offers) h zero =
       let ends : ending_status (ending s es) ≡ 0 = ap ending_status h in
@@ -126,10 +129,10 @@ module _ (party : Option (List ℕ)) (s : Setup) (es : List Event) where
   by_ending (guessed event party secret) h zero = absurd (omega (arith, zero))
   by_ending (collided event earlier later) h zero = absurd (omega (arith, zero))
 
-  told_by : (if_whole (next_printed party) s es).status ≡ 0 → Told party s es (if_whole (next_printed party) s es).text
+  told_by : (if_whole (next_printed form party) s es).status ≡ 0 → Told form party s es (if_whole (next_printed form party) s es).text
   told_by = by_ending (ending s es) refl
 
-  says : Theorems → (text : List ℕ) → IsRun s es → Told party s es text → SaysOfRun party s es text
+  says : Theorems → (text : List ℕ) → IsRun s es → Told form party s es text → SaysOfRun form party s es text
   says t text run told = record {
     told = told.told;
     meant = λ e. t.meant s (last_world s es) e;
@@ -141,6 +144,7 @@ module _ (party : Option (List ℕ)) (s : Setup) (es : List Event) where
     hands = t.hands s (last_configuration s es) (last_world s es);
     lasting = t.last;
     listed = λ o. t.listed party o;
+    together = t.together;
     leads = λ n i a b here taken. t.leads (last_configuration s es) n i a b here taken;
     waits = λ k advert at. t.waits s es run k advert at;
     ready = t.ready s es run;
@@ -153,35 +157,35 @@ contracts_in_texts : (k : ℕ) (files : List (List ℕ)) → contracts_in k (map
 contracts_in_texts k [] = refl
 contracts_in_texts k (file ∷ files) = ap (onto_judged k (contract_of file)) (contracts_in_texts (k + 1) files)
 
-module _ (t : Theorems) (hash : List ℕ → List ℕ) (bytes : HashesBytes hash) (party : Option (List ℕ)) (texts : List Text) where
-  shows_run : ShowsRun hash party texts (next_texts hash party texts)
+module _ (t : Theorems) (hash : List ℕ → List ℕ) (bytes : HashesBytes hash) (form : Form) (party : Option (List ℕ)) (texts : List Text) where
+  shows_run : ShowsRun hash form party texts (next_texts hash form party texts)
   shows_run run_file contract_file contract_files run contracts e few valid well zero =
       let s : Setup = setup_of hash run contracts in
-      let same : next_texts hash party texts ≡ if_whole (next_printed party) s run.events =
-      ap (next_texts hash party) e
-      ∙ (λ i. both_judged (if_whole (next_printed party)) hash (valid i) ((contracts_in_texts 0 (contract_file ∷ contract_files) ∙ well) i)) in
-      let told : Told party s run.events (if_whole (next_printed party) s run.events).text =
-      told_by party s run.events (ap (λ (p : Printed). p.status) (sym same) ∙ zero) in
+      let same : next_texts hash form party texts ≡ if_whole (next_printed form party) s run.events =
+      ap (next_texts hash form party) e
+      ∙ (λ i. both_judged (if_whole (next_printed form party)) hash (valid i) ((contracts_in_texts 0 (contract_file ∷ contract_files) ∙ well) i)) in
+      let told : Told form party s run.events (if_whole (next_printed form party) s run.events).text =
+      told_by form party s run.events (ap (λ (p : Printed). p.status) (sym same) ∙ zero) in
       let is_run : IsRun s run.events =
       t.valid hash bytes run_file (contract_file ∷ contract_files) run contracts valid well few told.opens in
-      subst (λ (p : Printed). SaysOfRun party s run.events p.text) (sym same)
-      (says party s run.events t (if_whole (next_printed party) s run.events).text is_run told)
+      subst (λ (p : Printed). SaysOfRun form party s run.events p.text) (sym same)
+      (says form party s run.events t (if_whole (next_printed form party) s run.events).text is_run told)
 
-  shows_contract : ShowsContract hash texts (next_texts hash party texts)
+  shows_contract : ShowsContract hash texts (next_texts hash form party texts)
   shows_contract contract_file advert e taken = record {
-    told = ap (λ (p : Printed). p.text) (ap (next_texts hash party) e ∙ ap begins_judged taken);
+    told = ap (λ (p : Printed). p.text) (ap (next_texts hash form party) e ∙ ap begins_judged taken);
     filled = t.lines.filled advert;
     runs = λ strings room differ opens. t.run hash advert strings bytes (well_formed contract_file advert taken) room differ opens;
     goes = λ strings room differ long opens.
         t.go hash advert strings bytes (well_formed contract_file advert taken) room differ long opens;
   }
 
-shows_texts : Theorems → (hash : List ℕ → List ℕ) → HashesBytes hash → (party : Option (List ℕ)) (o : Option (List Text))
-    → ShowsTexts hash party o (read_next hash party o)
-shows_texts t hash bytes party None = tt
-shows_texts t hash bytes party (Some texts) = (shows_run t hash bytes party texts, shows_contract t hash bytes party texts)
+shows_texts : Theorems → (hash : List ℕ → List ℕ) → HashesBytes hash → (form : Form) (party : Option (List ℕ)) (o : Option (List Text))
+    → ShowsTexts hash form party o (read_next hash form party o)
+shows_texts t hash bytes form party None = tt
+shows_texts t hash bytes form party (Some texts) = (shows_run t hash bytes form party texts, shows_contract t hash bytes form party texts)
 
 pub shows : Theorems → (hash : List ℕ → List ℕ) → HashesBytes hash → (command : Option NextCommand) (reads : List Read)
     → Shows hash command reads (next_answer hash command reads)
 shows t hash bytes None reads = tt
-shows t hash bytes (Some command) reads = shows_texts t hash bytes (party_of command) (texts_read reads)
+shows t hash bytes (Some command) reads = shows_texts t hash bytes (form_of command) (party_of command) (texts_read reads)

@@ -20,12 +20,13 @@ use Rattle.spec_text.specs.Refusals.{contract_of, run_of}
 use Rattle.spec_text.specs.RunText.{run_text}
 use Rattle.spec_tool.specs.Reads.{Read, Text, texts_read}
 use Rattle.spec_tool.specs.Commands.{Printed, contracts_from, setup_of}
+use Rattle.spec_next.specs.declared.form.Form.{Form}
 use Rattle.spec_next.specs.declared.outlook.Outlook.{Outlook}
 use Rattle.spec_next.specs.declared.outlook.Ruling.TheVariants as rulings
 use Rattle.spec_next.specs.Candidates.{all_candidates}
 use Rattle.spec_next.specs.FirstLines.{begin_text, first_lines, first_run, first_events}
-use Rattle.spec_next.specs.NextAnswer.{NextCommand, party_of}
-use Rattle.spec_next.specs.OutlookText.{next_text}
+use Rattle.spec_next.specs.NextAnswer.{NextCommand, form_of, party_of}
+use Rattle.spec_next.specs.Forms.{next_text}
 use Rattle.spec_next.specs.Prospects.{ruling}
 use Rattle.theory_next.specs.Candidates.{GoesThrough, IsSaid}
 use Rattle.theory_next.specs.FirstEvents.{AreLong, GoesThroughOrHalts}
@@ -38,15 +39,16 @@ use Rattle.theory_next.specs.MetAlone.{MetAlone}
 use Rattle.theory_next.specs.Never.{SaysWhatLacks, ShowsWhatComes}
 use Rattle.theory_next.specs.Once.{EachOnce}
 use Rattle.theory_next.specs.Ready.{ReadyComes}
+use Rattle.theory_next.specs.Together.{LinesNameAll}
 use Rattle.theory_next.specs.Waits.{WaitsForThose}
 use Rattle.theory_next.specs.Requirements.{RequirementsAreExact}
 
 -- ---- after a run
 
 -- what is said of these events after they are played
-pub record SaysOfRun (party : Option (List ℕ)) (s : Setup) (es : List Event) (text : List ℕ) : Type 0 where
-  -- it is the text of what may come next, for all or for this party
-  pub told : text ≡ next_text party s es
+pub record SaysOfRun (form : Form) (party : Option (List ℕ)) (s : Setup) (es : List Event) (text : List ℕ) : Type 0 where
+  -- it is the text of what may come next in this form, for all or for this party
+  pub told : text ≡ next_text form party s es
   -- an event can come exactly where it is done or accepted, and halts nothing
   pub meant : (e : Event) → ruling s (last_world s es) e ≡ rulings.Can ↔ GoesThrough s (last_world s es) e
   -- everything that the calculus offers is said to come, unless it halts the run
@@ -66,6 +68,8 @@ pub record SaysOfRun (party : Option (List ℕ)) (s : Setup) (es : List Event) (
   pub shown : (k : ℕ) (advert : Advert) → ShowsWhatComes s (last_configuration s es) (last_world s es) k advert
   -- all of these are listed, but for what may come later than another that is
   pub listed : (o : Outlook) → ListsAll party o
+  -- a line of what several parties lack names exactly those
+  pub together : LinesNameAll
   -- a branch is said to pay, or to lead to, what its step makes in the calculus
   pub leads : (n i : ℕ) (a : ActiveContract) (b : Guarded) → active_at (last_configuration s es).active n ≡ Some a
       → branch_at (last_configuration s es) n i ≡ Some b → LeadIsMeant (last_configuration s es) n i a b
@@ -94,12 +98,12 @@ pub record BeginsARun (hash : List ℕ → List ℕ) (advert : Advert) (text : L
 -- ---- files
 
 -- a run and contracts are taken, and nothing halts
-abbrev pub ShowsRun : (List ℕ → List ℕ) → Option (List ℕ) → List Text → Printed → Type 0
-ShowsRun hash party texts printed =
+abbrev pub ShowsRun : (List ℕ → List ℕ) → Form → Option (List ℕ) → List Text → Printed → Type 0
+ShowsRun hash form party texts printed =
     (run_file contract_file : List ℕ) (contract_files : List (List ℕ)) (run : Run) (contracts : List Advert)
     → texts ≡ Some run_file ∷ Some contract_file ∷ map Some contract_files → length (contract_file ∷ contract_files) ≤ most_contracts
     → run_of run_file ≡ Ok run → contracts_from 0 (contract_file ∷ contract_files) ≡ Ok contracts → printed.status ≡ 0
-    → SaysOfRun party (setup_of hash run contracts) run.events printed.text
+    → SaysOfRun form party (setup_of hash run contracts) run.events printed.text
 
 -- a contract is taken
 abbrev pub ShowsContract : (List ℕ → List ℕ) → List Text → Printed → Type 0
@@ -107,10 +111,10 @@ ShowsContract hash texts printed =
     (contract_file : List ℕ) (advert : Advert) → texts ≡ Some contract_file ∷ [] → contract_of contract_file ≡ Ok advert
     → BeginsARun hash advert printed.text
 
-abbrev pub ShowsTexts : (List ℕ → List ℕ) → Option (List ℕ) → Option (List Text) → Printed → Type 0
-ShowsTexts hash party None printed = Unit {0}
-ShowsTexts hash party (Some texts) printed = ShowsRun hash party texts printed × ShowsContract hash texts printed
+abbrev pub ShowsTexts : (List ℕ → List ℕ) → Form → Option (List ℕ) → Option (List Text) → Printed → Type 0
+ShowsTexts hash form party None printed = Unit {0}
+ShowsTexts hash form party (Some texts) printed = ShowsRun hash form party texts printed × ShowsContract hash texts printed
 
 abbrev pub Shows : (List ℕ → List ℕ) → Option NextCommand → List Read → Printed → Type 0
 Shows hash None reads printed = Unit {0}
-Shows hash (Some command) reads printed = ShowsTexts hash (party_of command) (texts_read reads) printed
+Shows hash (Some command) reads printed = ShowsTexts hash (form_of command) (party_of command) (texts_read reads) printed

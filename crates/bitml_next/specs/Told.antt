@@ -18,11 +18,11 @@ use Rattle.bitml_next.specs.Shown.{Shows}
 -- the call as the definition has it
 abbrev pub seen : NextCall → NextCommand
 seen (calls.Begins contract) = begins contract.now
-seen (calls.Continues party run contracts) = continues (option_map (λ p. p.now) party) run.now (map string_bytes contracts.now)
+seen (calls.Continues form party run contracts) = continues form (option_map (λ p. p.now) party) run.now (map string_bytes contracts.now)
 
 -- a run has no more contracts than it may have
 abbrev pub HasFew : Option NextCommand → Type 0
-HasFew (Some (continues party run contracts)) = length contracts ≤ most_contracts
+HasFew (Some (continues form party run contracts)) = length contracts ≤ most_contracts
 HasFew _ = Unit {0}
 
 -- ---- answers

@@ -14,6 +14,7 @@ use bm_hash::Hash32;
 use bm_wellformed::Checked;
 use next_text::begin_text;
 use spec_data::{Bytes, OutOfMemory};
+use spec_next::Form;
 use spec_tool::Reply;
 use std::alloc::{AllocError, Global};
 use tool_command::{JudgeError, Judgement, contract_in, contract_refused, judge_both};
@@ -41,29 +42,31 @@ fn contract_reply(alloc: Global, text: &Option<Bytes>) -> Result<Reply, OutOfMem
 fn run_reply<H: Hash32 + Drop>(
     alloc: Global,
     hash: H,
+    form: Form,
     party: Option<&[u8]>,
     run: &Option<Bytes>,
     contracts: &[Option<Bytes>],
 ) -> Result<Reply, OutOfMemory>
     requires { length contracts.now ≤ most_contracts }
     ensures { IfOk result (λ reply. printed reply
-        ≡ both_judged (if_whole (next_printed (option_map (λ p. p.now) party.entry))) (H.digest_of hash) (run_in run.now) (contracts_in 0 contracts.now)) }
+        ≡ both_judged (if_whole (next_printed form (option_map (λ p. p.now) party.entry))) (H.digest_of hash) (run_in run.now) (contracts_in 0 contracts.now)) }
 {
     match judge_both(alloc, run, contracts)? {
         Judgement::Refused(reply) => Ok(reply),
-        Judgement::Taken(run, contracts) => next_reply(alloc, hash, party, &run, contracts),
+        Judgement::Taken(run, contracts) => next_reply(alloc, hash, form, party, &run, contracts),
     }
 }
 
-/// What is replied to these texts, for all or for one party: one is a contract, of more the first is a run.
+/// What is replied to these texts in this form, for all or for one party: one is a contract, of more the first is a run.
 pub(crate) fn next_texts<H: Hash32 + Drop>(
     alloc: Global,
     hash: H,
+    form: Form,
     party: Option<&[u8]>,
     texts: &[Option<Bytes>],
 ) -> Result<Reply, OutOfMemory>
     requires { length texts.now ≤ most_contracts + 1 }
-    ensures { IfOk result (λ reply. printed reply ≡ spec.next_texts (H.digest_of hash) (option_map (λ p. p.now) party.entry) texts.now) }
+    ensures { IfOk result (λ reply. printed reply ≡ spec.next_texts (H.digest_of hash) form (option_map (λ p. p.now) party.entry) texts.now) }
 {
     match texts {
         [] => Ok(Reply {
@@ -71,6 +74,6 @@ pub(crate) fn next_texts<H: Hash32 + Drop>(
             text: Bytes::from_slice(alloc, b"usage\n")?,
         }),
         [contract] => contract_reply(alloc, contract),
-        [run, contracts @ ..] => run_reply(alloc, hash, party, run, contracts),
+        [run, contracts @ ..] => run_reply(alloc, hash, form, party, run, contracts),
     }
 }

@@ -13,13 +13,14 @@ ghost use Rattle.theory_next.specs.MetAlone.{MetAloneTheorem};
 ghost use Rattle.theory_next.specs.Never.{NeverIsSaid};
 ghost use Rattle.theory_next.specs.Once.{CandidatesStandOnce};
 ghost use Rattle.theory_next.specs.Ready.{ReadyComesTheorem};
+ghost use Rattle.theory_next.specs.Together.{LinesNameAll};
 ghost use Rattle.theory_next.specs.Waits.{WaitsAreMeant};
 ghost use Rattle.theory_next.specs.Requirements.{RequirementsAreExactTheorem};
 ghost use Rattle.bitml_next.specs.Told.{TellsAll};
 
 use theory_next::{
     can_is_meant, candidates_stand_once, first_events_go_through, first_lines_are_a_run,
-    first_run_is_a_run, hands_count, leads_are_effects, met_alone, never_is_said,
+    first_run_is_a_run, hands_count, leads_are_effects, lines_name_all, met_alone, never_is_said,
     nothing_is_left_out, offers_are_said, ready_comes, refusals_last, requirements_are_exact,
     waits_are_meant,
 };
@@ -36,6 +37,7 @@ fn by_theorems()
     requires never { NeverIsSaid }
     requires hands { HandsCountTheorem }
     requires listed { NothingIsLeftOut }
+    requires together { LinesNameAll }
     requires leads { LeadsAreEffects }
     requires last { RefusalsLast }
     requires ready { ReadyComesTheorem }
@@ -60,6 +62,7 @@ pub(crate) fn answers_tell_all()
     never_is_said();
     hands_count();
     nothing_is_left_out();
+    lines_name_all();
     leads_are_effects();
     refusals_last();
     ready_comes();

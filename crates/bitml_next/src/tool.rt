@@ -2,12 +2,12 @@
 
 ghost use Rattle.std.specs.Prelude.{◌≡◌, ℕ, List, length, Some, map, string_bytes, refl, IfOk};
 ghost use Rattle.spec_tool.specs.Replies.{printed};
-ghost use Rattle.spec_next.specs.NextAnswer.{next_files, party_of, read_next};
+ghost use Rattle.spec_next.specs.NextAnswer.{form_of, next_files, party_of, read_next};
 ghost use Rattle.tool_shell.specs.Around.{around};
 ghost use Rattle.tool_shell.specs.Asked.{asked};
 ghost use Rattle.bitml_next.specs.Told.{seen, HasFew, Tells};
 
-use crate::call::{NextCall, call_of, files_of, party_in};
+use crate::call::{NextCall, call_of, files_of, form_in, party_in};
 use crate::replying::next_texts;
 use crate::theorem::answers_tell_all;
 use bm_hash::{Hash32, hashes_bytes};
@@ -22,7 +22,7 @@ impl Call for NextCall<'_> {
 
     ghost asks = { λ call. next_files (seen call) };
 
-    ghost answers = { λ hash call. read_next hash (party_of (seen call)) };
+    ghost answers = { λ hash call. read_next hash (form_of (seen call)) (party_of (seen call)) };
 
     ghost unread = { λ hash call. refl };
 
@@ -40,9 +40,10 @@ impl Call for NextCall<'_> {
     ) -> Result<Reply, OutOfMemory>
         requires served { HasFew (Some (seen self.now)) }
         requires count { length texts.now ≡ length (next_files (seen self.now)) }
-        ensures { IfOk result (λ reply. printed reply ≡ read_next (H.digest_of hash) (party_of (seen self.now)) (Some texts.now)) }
+        ensures { IfOk result (λ reply. printed reply
+            ≡ read_next (H.digest_of hash) (form_of (seen self.now)) (party_of (seen self.now)) (Some texts.now)) }
     {
-        next_texts(alloc, hash, party_in(self), texts)
+        next_texts(alloc, hash, form_in(self), party_in(self), texts)
     }
 }
 

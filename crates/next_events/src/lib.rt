@@ -1,8 +1,9 @@
-//! Lists the events that may come next for a contract, for each the conditions of the calculus that fail, and what a branch
-//! makes.
+//! Lists the events that may come next for a contract, for each the conditions of the calculus that fail, who is to give
+//! what is missing, and what a branch makes.
 #![tactic(auto)]
 
 mod binding;
+mod giver;
 mod leads;
 mod lost;
 mod opening;
@@ -13,6 +14,7 @@ mod outstanding_reveal;
 mod taking;
 
 pub use binding::advertising;
+pub use giver::awaited;
 pub use leads::lead_at;
 pub use lost::{is_any_never, is_lost, is_never, is_refused};
 pub use opening::{put_committing, put_revealing, put_starting};

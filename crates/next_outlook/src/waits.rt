@@ -1,30 +1,15 @@
 //! Who can give now what is missing.
 
-ghost use Rattle.std.specs.Prelude.{◌≡◌, ◌&&◌, option_map, IfOk};
+ghost use Rattle.std.specs.Prelude.{◌≡◌, ◌&&◌, IfOk};
 ghost use Rattle.std.specs.List.{list_any};
 ghost use Rattle.spec_next.specs.Prospects as spec;
 
 use crate::gives::gives;
 use bm_calculus::Config;
+use next_events::awaited;
 use spec_data::{Name, OutOfMemory, Seq};
 use spec_next::{Prospect, Requirement, Ruling};
 use std::alloc::Global;
-
-// The party that is to give what is missing.
-fn awaited(requirement: &Requirement) -> Option<&Name>
-    ensures { option_map (λ n. n.now) result ≡ spec.awaited requirement.now }
-{
-    match requirement {
-        Requirement::Digest { party, .. } => Some(party),
-        Requirement::Commitment { party, .. } => Some(party),
-        Requirement::Endorsement { party, .. } => Some(party),
-        Requirement::Start { party, .. } => Some(party),
-        Requirement::Authorisation { party, .. } => Some(party),
-        Requirement::Secret { party, .. } => Some(party),
-        Requirement::Posted { party, .. } => Some(party),
-        _ => None,
-    }
-}
 
 // Whether what is missing is for this party to give.
 fn is_for(requirement: &Requirement, party: &Name) -> bool

@@ -1,3 +1,4 @@
+pub mod Appended
 pub mod Deposits
 pub mod Nothing
 pub mod Phases

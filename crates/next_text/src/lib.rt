@@ -9,6 +9,9 @@ mod listed;
 mod once;
 mod outlook;
 mod requirement;
+mod together;
 
 pub use beginning::begin_text;
+pub use listed::{is_for_party, listed_of, of_party};
 pub use outlook::outlooks_text;
+pub use requirement::put_requirement;

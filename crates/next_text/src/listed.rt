@@ -1,8 +1,9 @@
 //! Which events of a contract are listed.
 
-ghost use Rattle.std.specs.Prelude.{◌≡◌, filter, option_map, IfOk};
+ghost use Rattle.std.specs.Prelude.{◌≡◌, ◌||◌, filter, option_map, IfOk};
 ghost use Rattle.spec_data.specs.Lists.{is_among};
 ghost use Rattle.spec_next.specs.Listed as spec;
+ghost use Rattle.spec_next.specs.Prospects as prospects;
 
 use next_events::{is_lost, is_refused};
 use spec_data::{Name, OutOfMemory, Seq};
@@ -120,17 +121,25 @@ fn is_by(party: &[u8], event: &Event) -> bool
     }
 }
 
-// Whether an event is asked for: all are, or those of one party.
-fn is_asked(party: Option<&[u8]>, event: &Event) -> bool
-    ensures { result ≡ spec.is_asked (option_map (λ p. p.now) party.entry) event.now }
+// Whether it is this party's or anybody's, or never comes.
+fn is_shown(party: &[u8], prospect: &Prospect) -> bool
+    ensures { result ≡ (spec.is_by party.now prospect.now.event || prospects.is_lost prospect.now) }
+{
+    let lost = is_lost(prospect);
+    is_by(party, &prospect.event) || lost
+}
+
+// Whether an event is shown: all are, or those of one party and those of others that never come.
+fn is_asked(party: Option<&[u8]>, prospect: &Prospect) -> bool
+    ensures { result ≡ spec.is_asked (option_map (λ p. p.now) party.entry) prospect.now }
 {
     match party {
         None => true,
-        Some(party) => is_by(party, event),
+        Some(party) => is_shown(party, prospect),
     }
 }
 
-// Those of these that are asked for.
+// Those of these that are shown.
 fn by_party(
     alloc: Global,
     party: Option<&[u8]>,
@@ -140,7 +149,7 @@ fn by_party(
 {
     let mut list = Seq::new(alloc);
     for prospect in prospects {
-        if is_asked(party, &prospect.event) {
+        if is_asked(party, prospect) {
             list.push(prospect.copy(alloc)?)?;
         }
     }
@@ -148,7 +157,7 @@ fn by_party(
 }
 
 /// Whether a name is asked for: all are, or that of one party.
-pub(crate) fn is_meant(party: Option<&[u8]>, name: &Name) -> bool
+pub fn is_meant(party: Option<&[u8]>, name: &Name) -> bool
     ensures { result ≡ spec.is_meant (option_map (λ p. p.now) party.entry) name.now }
 {
     match party {
@@ -164,7 +173,7 @@ fn takes_part(party: &[u8], names: &[Name]) -> bool
 }
 
 /// Whether a contract of these people is shown: all are, or those in which one party takes part.
-pub(crate) fn is_for_party(party: Option<&[u8]>, outlook: &Outlook) -> bool
+pub fn is_for_party(party: Option<&[u8]>, outlook: &Outlook) -> bool
     ensures { result ≡ spec.is_for_party (option_map (λ p. p.now) party.entry) outlook.now }
 {
     match party {
@@ -173,8 +182,25 @@ pub(crate) fn is_for_party(party: Option<&[u8]>, outlook: &Outlook) -> bool
     }
 }
 
+/// Those of these names that are asked for.
+pub fn of_party(
+    alloc: Global,
+    party: Option<&[u8]>,
+    names: &[Name],
+) -> Result<Seq<Name>, OutOfMemory>
+    ensures { IfOk result (λ list. list ≡ spec.of_party (option_map (λ p. p.now) party.entry) names.now) }
+{
+    let mut list = Seq::new(alloc);
+    for name in names {
+        if is_meant(party, name) {
+            list.push(*name)?;
+        }
+    }
+    Ok(list)
+}
+
 /// What is listed of a contract.
-pub(crate) fn listed_of(
+pub fn listed_of(
     alloc: Global,
     party: Option<&[u8]>,
     outlook: &Outlook,

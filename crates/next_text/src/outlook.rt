@@ -9,7 +9,7 @@ ghost use Rattle.spec_next.specs.OutlookText as spec;
 
 use crate::lead::put_event_lead;
 use crate::listed::{is_before, is_for_party, is_meant, listed_of};
-use crate::once::put_requirements;
+use crate::together::put_requirements;
 use bm_calculus::Config;
 use bm_report::put_reason;
 use bm_runfile::{put_event, put_word_number};

@@ -1,6 +1,6 @@
 //! What is missing, in words.
 
-ghost use Rattle.std.specs.Prelude.{◌≡◌, ◌++◌, codes, IfOk, OnOk};
+ghost use Rattle.std.specs.Prelude.{◌≡◌, ◌++◌, codes, OnOk};
 ghost use Rattle.std.specs.Fmt.{decimal};
 ghost use Rattle.spec_text.specs.StepText.{branch_text};
 ghost use Rattle.spec_next.specs.RequirementText as spec;
@@ -123,7 +123,8 @@ fn put_between(out: &mut Vec<u8>, word: &[u8], name: &Name, end: &[u8]) -> Resul
     put(out, end)
 }
 
-fn put_requirement(
+/// What is missing, in words.
+pub fn put_requirement(
     alloc: Global,
     out: &mut Vec<u8>,
     requirement: &Requirement,
@@ -184,18 +185,4 @@ fn put_requirement(
         }
         Requirement::Predicate => put(out, b"never: predicate false"),
     }
-}
-
-/// The line of what is missing.
-#[tactic(auto, using(std::proofs::Common::append_assoc))]
-pub(crate) fn requirement_line(
-    alloc: Global,
-    requirement: &Requirement,
-) -> Result<Vec<u8>, OutOfMemory>
-    ensures { IfOk result (λ text. text.items ≡ spec.requirement_line requirement.now) }
-{
-    let mut out = Vec::new(alloc);
-    put_requirement(alloc, &mut out, requirement)?;
-    put(&mut out, b"\n")?;
-    Ok(out)
 }

@@ -1,3 +1,4 @@
 pub mod RunVectors
 pub mod Vectors
 pub mod RequirementVectors
+pub mod JsonVectors

@@ -57,6 +57,20 @@ escrow =
     codes "{A:! 3 @ x | B:! 2 @ y} (A : withdraw B + B : after 7 : withdraw A)" ∷
     [])
 
+-- its advertisement
+abbrev pub escrow_advertised : List ℕ
+escrow_advertised =
+    lines (
+    codes "party A" ∷
+    codes "party B" ∷
+    codes "honest A" ∷
+    codes "honest B" ∷
+    codes "deposit A 3" ∷
+    codes "deposit B 2" ∷
+    codes "--" ∷
+    codes "advertise 0 x=#0 y=#1" ∷
+    [])
+
 -- its opening
 abbrev pub escrow_opened : List ℕ
 escrow_opened =

@@ -24,7 +24,8 @@ use Rattle.spec_text.specs.Played.{play_text}
 use Rattle.spec_tool.specs.Reads.{got}
 use Rattle.spec_tool.specs.Commands.{prints}
 use Rattle.spec_tool.proofs.HashVectors.{small_hash}
-use Rattle.spec_next.specs.OutlookText.{next_text}
+use Rattle.spec_next.specs.declared.form.Form.TheVariants as forms
+use Rattle.spec_next.specs.Forms.{next_text}
 use Rattle.spec_next.specs.Foreseen.{next_printed}
 use Rattle.spec_next.specs.FirstLines.{begin_text}
 use Rattle.spec_next.specs.Hands.{are_in_book}
@@ -41,18 +42,29 @@ no_words = refl
 pub one_word : next_words (codes "c" ∷ []) ≡ Some (begins (codes "c"))
 one_word = refl
 
-pub sixteen_contracts : next_words (codes "r" ∷ replicate 16 (codes "c")) ≡ Some (continues None (codes "r") (replicate 16 (codes "c")))
+pub sixteen_contracts : next_words (codes "r" ∷ replicate 16 (codes "c")) ≡ Some (continues forms.Lines None (codes "r") (replicate 16 (codes "c")))
 sixteen_contracts = refl
 
 pub seventeen_contracts : next_words (codes "r" ∷ replicate 17 (codes "c")) ≡ None
 seventeen_contracts = refl
 
 pub words_for_one : next_words (codes "--for" ∷ codes "A" ∷ codes "r" ∷ codes "c" ∷ [])
-    ≡ Some (continues (Some (codes "A")) (codes "r") (codes "c" ∷ []))
+    ≡ Some (continues forms.Lines (Some (codes "A")) (codes "r") (codes "c" ∷ []))
 words_for_one = refl
 
 pub words_for_one_without_contract : next_words (codes "--for" ∷ codes "A" ∷ codes "r" ∷ []) ≡ None
 words_for_one_without_contract = refl
+
+pub words_for_json : next_words (codes "--json" ∷ codes "r" ∷ codes "c" ∷ [])
+    ≡ Some (continues forms.Json None (codes "r") (codes "c" ∷ []))
+words_for_json = refl
+
+pub words_for_json_of_one : next_words (codes "--json" ∷ codes "--for" ∷ codes "A" ∷ codes "r" ∷ codes "c" ∷ [])
+    ≡ Some (continues forms.Json (Some (codes "A")) (codes "r") (codes "c" ∷ []))
+words_for_json_of_one = refl
+
+pub words_for_json_without_contract : next_words (codes "--json" ∷ codes "r" ∷ []) ≡ None
+words_for_json_without_contract = refl
 
 -- ---- the first lines
 
@@ -86,7 +98,7 @@ first_lines_of_commitment = refl
 -- ---- what comes next
 
 -- before any event
-pub before_all : next_answer small_hash (Some (continues None (codes "r") (codes "c" ∷ []))) (got commitment_header ∷ got commitment ∷ [])
+pub before_all : next_answer small_hash (Some (continues forms.Lines None (codes "r") (codes "c" ∷ []))) (got commitment_header ∷ got commitment ∷ [])
     ≡ prints 0 (lines (
     codes "height 0" ∷
     codes "contract 0" ∷
@@ -104,7 +116,7 @@ unfolding is_name word_prefix number_prefix symbol_prefix read_contract advert_o
 before_all = refl
 
 -- once the commitment has begun
-pub once_opened : next_answer small_hash (Some (continues None (codes "r") (codes "c" ∷ []))) (got commitment_opened ∷ got commitment ∷ [])
+pub once_opened : next_answer small_hash (Some (continues forms.Lines None (codes "r") (codes "c" ∷ []))) (got commitment_opened ∷ got commitment ∷ [])
     ≡ prints 0 (lines (
     codes "height 0" ∷
     codes "contract 0" ∷
@@ -126,7 +138,7 @@ unfolding is_name word_prefix number_prefix symbol_prefix read_contract advert_o
 once_opened = refl
 
 -- an escrow waits for its parties
-pub escrow_waits : next_answer small_hash (Some (continues None (codes "r") (codes "c" ∷ []))) (got escrow_opened ∷ got escrow ∷ [])
+pub escrow_waits : next_answer small_hash (Some (continues forms.Lines None (codes "r") (codes "c" ∷ []))) (got escrow_opened ∷ got escrow ∷ [])
     ≡ prints 0 (lines (
     codes "height 0" ∷
     codes "contract 0" ∷
@@ -151,7 +163,7 @@ unfolding is_name word_prefix number_prefix symbol_prefix read_contract advert_o
 escrow_waits = refl
 
 -- for one party its own events, and those that anybody can bring
-pub escrow_for_one : next_answer small_hash (Some (continues (Some (codes "A")) (codes "r") (codes "c" ∷ [])))
+pub escrow_for_one : next_answer small_hash (Some (continues forms.Lines (Some (codes "A")) (codes "r") (codes "c" ∷ [])))
     (got escrow_opened ∷ got escrow ∷ [])
     ≡ prints 0 (lines (
     codes "height 0" ∷
@@ -175,7 +187,7 @@ unfolding is_name word_prefix number_prefix symbol_prefix read_contract advert_o
 escrow_for_one = refl
 
 -- nothing of a contract in which it takes no part
-pub escrow_for_nobody : next_answer small_hash (Some (continues (Some (codes "C")) (codes "r") (codes "c" ∷ [])))
+pub escrow_for_nobody : next_answer small_hash (Some (continues forms.Lines (Some (codes "C")) (codes "r") (codes "c" ∷ [])))
     (got escrow_opened ∷ got escrow ∷ [])
     ≡ prints 0 (lines (
     codes "height 0" ∷
@@ -189,7 +201,7 @@ unfolding is_name word_prefix number_prefix symbol_prefix read_contract advert_o
 escrow_for_nobody = refl
 
 -- nothing of a contract whose money is gone: its secret isn't asked for
-pub over : next_answer small_hash (Some (continues None (codes "r") (codes "c" ∷ [])))
+pub over : next_answer small_hash (Some (continues forms.Lines None (codes "r") (codes "c" ∷ [])))
     (got commitment_over ∷ got commitment ∷ [])
     ≡ prints 0 (lines (
     codes "height 1000" ∷
@@ -204,7 +216,7 @@ unfolding is_name word_prefix number_prefix symbol_prefix read_contract advert_o
 over = refl
 
 -- a split leads to each of its parts
-pub parts_go_on : next_answer small_hash (Some (continues None (codes "r") (codes "c" ∷ [])))
+pub parts_go_on : next_answer small_hash (Some (continues forms.Lines None (codes "r") (codes "c" ∷ [])))
     (got splitting_opened ∷ got splitting ∷ [])
     ≡ prints 0 (lines (
     codes "height 0" ∷
@@ -221,7 +233,7 @@ unfolding is_name word_prefix number_prefix symbol_prefix read_contract advert_o
 parts_go_on = refl
 
 -- a put adds what its deposits hold
-pub put_adds : next_answer small_hash (Some (continues None (codes "r") (codes "c" ∷ [])))
+pub put_adds : next_answer small_hash (Some (continues forms.Lines None (codes "r") (codes "c" ∷ [])))
     (got putting_opened ∷ got putting ∷ [])
     ≡ prints 0 (lines (
     codes "height 0" ∷

@@ -10,7 +10,8 @@ use Rattle.spec_run.specs.Translation.{last_configuration, last_world}
 use Rattle.spec_text.specs.PlayText.{collided_line}
 use Rattle.spec_tool.specs.Commands.{Printed, prints}
 use Rattle.spec_next.specs.Candidates.{all_candidates}
-use Rattle.spec_next.specs.OutlookText.{next_text}
+use Rattle.spec_next.specs.declared.form.Form.{Form}
+use Rattle.spec_next.specs.Forms.{next_text}
 
 -- the strings that these events would hash in this world
 abbrev pub foreseen_strings : Setup → World → List Event → List (List ℕ)
@@ -24,6 +25,6 @@ abbrev pub unless_collided : Option (List ℕ × List ℕ) → List ℕ → Prin
 unless_collided (Some pair) text = prints 8 (collided_line (pair.0) (pair.1))
 unless_collided None text = prints 0 text
 
--- what comes next after these events, which halt nothing, for all or for one party
-unfoldable pub next_printed : Option (List ℕ) → Setup → List Event → Printed
-next_printed party s es = unless_collided (foreseen_collision s (last_configuration s es) (last_world s es)) (next_text party s es)
+-- what comes next after these events, which halt nothing, in this form, for all or for one party
+unfoldable pub next_printed : Form → Option (List ℕ) → Setup → List Event → Printed
+next_printed form party s es = unless_collided (foreseen_collision s (last_configuration s es) (last_world s es)) (next_text form party s es)

@@ -5,8 +5,11 @@ pub mod Requirements
 pub mod Hands
 pub mod Leads
 pub mod Prospects
+pub mod Together
 pub mod Listed
 pub mod OutlookText
+pub mod JsonForm
+pub mod Forms
 pub mod Foreseen
 pub mod FirstLines
 pub mod NextAnswer

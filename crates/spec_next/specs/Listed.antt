@@ -1,6 +1,6 @@
 -- Which events of a contract are listed: of those before its branches that are refused and may come yet, those of the next phase; and for
--- one party its own, and those that anybody can bring.
-use Rattle.std.specs.Prelude.{ℕ, ◌==◌, nat_le, List, [], ◌∷◌, filter, Bool, true, not, ◌&&◌, if◌then◌else◌, Option, Some, None, is_some}
+-- one party its own, those that anybody can bring, and those that never come.
+use Rattle.std.specs.Prelude.{ℕ, ◌==◌, nat_le, List, [], ◌∷◌, filter, Bool, true, not, ◌&&◌, ◌||◌, if◌then◌else◌, Option, Some, None, is_some}
 use Rattle.std.specs.Str.{bytes_eq}
 use Rattle.spec_data.specs.Lists.{is_among}
 use Rattle.spec_run.specs.declared.event.Event.{Event}
@@ -63,13 +63,13 @@ is_by party (events.Sign who label digest) = bytes_eq who party
 is_by party (events.Give who inputs outputs) = bytes_eq who party
 is_by party _ = true
 
--- whether an event is asked for: all are, or those of one party
-abbrev pub is_asked : Option (List ℕ) → Event → Bool
-is_asked None e = true
-is_asked (Some party) e = is_by party e
+-- whether an event is shown: all are, or those of one party and, since they hold it up, those of others that never come
+abbrev pub is_asked : Option (List ℕ) → Prospect → Bool
+is_asked None p = true
+is_asked (Some party) p = is_by party p.event || is_lost p
 
 abbrev pub by_party : Option (List ℕ) → List Prospect → List Prospect
-by_party party ps = filter (λ p. is_asked party p.event) ps
+by_party party ps = filter (λ p. is_asked party p) ps
 
 -- whether a name is asked for: all are, or that of one party
 abbrev pub is_meant : Option (List ℕ) → List ℕ → Bool

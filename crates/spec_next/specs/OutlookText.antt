@@ -1,13 +1,10 @@
--- How what comes next is printed.
-use Rattle.std.specs.Prelude.{ℕ, List, [], ◌∷◌, ◌++◌, map, filter, flat_map, codes, if◌then◌else◌, Option, Some, None}
+-- How what comes next is printed in lines.
+use Rattle.std.specs.Prelude.{ℕ, List, [], ◌++◌, filter, flat_map, codes, Option, Some, None}
 use Rattle.std.specs.Fmt.{decimal}
-use Rattle.spec_data.specs.Lists.{is_among}
 use Rattle.spec_bitcoin.specs.Keys.{path_text}
 use Rattle.spec_calculus.specs.Configuration.{Configuration}
 use Rattle.spec_run.specs.declared.event.Event.{Event}
 use Rattle.spec_run.specs.declared.event.Event.TheVariants as events
-use Rattle.spec_run.specs.Setup.{Setup}
-use Rattle.spec_run.specs.Translation.{last_world, last_configuration}
 use Rattle.spec_text.specs.RunText.{newline, event_text}
 use Rattle.spec_text.specs.OutcomeText.{reason_text}
 use Rattle.spec_next.specs.declared.lead.Lead.{Lead}
@@ -17,11 +14,9 @@ use Rattle.spec_next.specs.declared.outlook.Ruling.{Ruling}
 use Rattle.spec_next.specs.declared.outlook.Ruling.TheVariants as rulings
 use Rattle.spec_next.specs.declared.outlook.Prospect.{Prospect}
 use Rattle.spec_next.specs.declared.outlook.Outlook.{Outlook}
-use Rattle.spec_next.specs.declared.requirement.Requirement.{Requirement}
 use Rattle.spec_next.specs.Leads.{lead_at}
 use Rattle.spec_next.specs.Listed.{before, from_branches, is_for_party, listed_of, of_party}
-use Rattle.spec_next.specs.RequirementText.{requirement_line}
-use Rattle.spec_next.specs.Prospects.{outlooks}
+use Rattle.spec_next.specs.Together.{requirements_text}
 
 -- ---- events
 
@@ -51,23 +46,6 @@ lead_text (Some l) = lead_line l
 abbrev pub event_lead : Configuration → Event → List ℕ
 event_lead g (events.Fire n i) = lead_text (lead_at g n i)
 event_lead g _ = []
-
--- ---- what is missing
-
--- these lines, and one more that isn't among them
-abbrev pub with_line : List (List ℕ) → List ℕ → List (List ℕ)
-with_line seen line = if is_among line seen then seen else seen ++ line ∷ []
-
-abbrev pub once_onto : List (List ℕ) → List (List ℕ) → List (List ℕ)
-once_onto seen [] = seen
-once_onto seen (line ∷ more) = once_onto (with_line seen line) more
-
--- each line once, where it first stands
-abbrev pub once : List (List ℕ) → List (List ℕ)
-once lines = once_onto [] lines
-
-abbrev pub requirements_text : List Requirement → List ℕ
-requirements_text required = flat_map (λ line. line) (once (map requirement_line required))
 
 -- ---- contracts
 
@@ -104,8 +82,3 @@ height_line height = codes "height " ++ (decimal height ++ newline)
 -- the height, and contract by contract
 abbrev pub outlooks_text : Option (List ℕ) → Configuration → List Outlook → List ℕ
 outlooks_text party g os = height_line g.time ++ flat_map (outlook_text party g) (filter (is_for_party party) os)
-
--- what comes next after these events, for all or for one party
-unfoldable pub next_text : Option (List ℕ) → Setup → List Event → List ℕ
-next_text party s es =
-    outlooks_text party (last_configuration s es) (outlooks s (last_configuration s es) (last_world s es))

@@ -1,7 +1,6 @@
 -- How what is missing is printed.
 use Rattle.std.specs.Prelude.{ℕ, List, ◌++◌, codes}
 use Rattle.std.specs.Fmt.{decimal}
-use Rattle.spec_text.specs.RunText.{newline}
 use Rattle.spec_text.specs.StepText.{branch_text}
 use Rattle.spec_next.specs.declared.requirement.Requirement.{Requirement}
 use Rattle.spec_next.specs.declared.requirement.Requirement.TheVariants as requirements
@@ -29,6 +28,3 @@ requirement_text (requirements.Secret party k secret) =
     ++ (secret ++ (codes " of " ++ (party ++ (codes " by reveal " ++ (decimal k ++ (codes " " ++ (party ++ (codes " " ++ secret))))))))
 requirement_text (requirements.Posted party secret) = codes "needs secret " ++ (secret ++ (codes " of " ++ (party ++ codes " by post")))
 requirement_text requirements.Predicate = codes "never: predicate false"
-
-abbrev pub requirement_line : Requirement → List ℕ
-requirement_line requirement = requirement_text requirement ++ newline

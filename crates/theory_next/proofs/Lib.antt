@@ -9,6 +9,7 @@ pub mod OneMore
 pub mod MetAlone
 pub mod Waits
 pub mod Listed
+pub mod Together
 pub mod Hands
 pub mod Leads
 pub mod Once

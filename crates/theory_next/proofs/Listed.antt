@@ -128,11 +128,11 @@ nothing_is_left_out party o = record {
   own = λ p h.
       let qs = by_party party o.prospects in
       let f = in_filter (λ q. is_due (later_phase q) (next_phase qs)) qs p (in_from_contains (listed_of party o) p h) in
-      let a = in_filter (λ (q : Prospect). is_asked party q.event) o.prospects p f.0 in
+      let a = in_filter (λ (q : Prospect). is_asked party q) o.prospects p f.0 in
       (contains_from_in o.prospects p a.0, a.1);
   all = λ p h a.
       let qs = by_party party o.prospects in
-      let i = filter_has (λ (q : Prospect). is_asked party q.event) o.prospects p (in_from_contains o.prospects p h) a in
+      let i = filter_has (λ (q : Prospect). is_asked party q) o.prospects p (in_from_contains o.prospects p h) a in
       elim (listed_or_later qs p i) [
         | inl i ↦ inl (contains_from_in (listed_of party o) p i)
         | inr l ↦ inr l

@@ -10,5 +10,6 @@ pub mod Never
 pub mod Lasting
 pub mod Waits
 pub mod Listed
+pub mod Together
 pub mod Hands
 pub mod Leads

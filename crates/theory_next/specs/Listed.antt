@@ -18,10 +18,10 @@ pub record ComesLater (ps : List Prospect) (p : Prospect) : Type 0 where
   pub before : sooner_phase < of_phase
 
 pub record ListsAll (party : Option (List ℕ)) (o : Outlook) : Type 0 where
-  -- nothing is added: each is ahead of the contract, and the party's own or one that anybody can bring, if one party asks
-  pub own : (p : Prospect) → Contains (listed_of party o) p → Contains o.prospects p × (is_asked party p.event ≡ true)
+  -- nothing is added: each is ahead of the contract and, if one party asks, its own, one that anybody can bring, or one that never comes
+  pub own : (p : Prospect) → Contains (listed_of party o) p → Contains o.prospects p × (is_asked party p ≡ true)
   -- nothing is left out; so all that can come, would halt or never comes is listed
-  pub all : (p : Prospect) → Contains o.prospects p → is_asked party p.event ≡ true
+  pub all : (p : Prospect) → Contains o.prospects p → is_asked party p ≡ true
       → Contains (listed_of party o) p ⊎ ComesLater (by_party party o.prospects) p
 
 -- of every contract

@@ -16,6 +16,7 @@ ghost use Rattle.theory_next.specs.Once.{CandidatesStandOnce};
 ghost use Rattle.theory_next.specs.Ready.{ReadyComesTheorem};
 ghost use Rattle.theory_next.specs.Waits.{WaitsAreMeant};
 ghost use Rattle.theory_next.specs.Requirements.{RequirementsAreExactTheorem};
+ghost use Rattle.theory_next.specs.Together.{LinesNameAll};
 
 /// An event is said to be one that can come exactly where it is done or accepted, and halts nothing.
 pub fn can_is_meant()
@@ -73,6 +74,11 @@ pub fn hands_count()
 /// Of what a contract has ahead all is listed, but what may come later than another event of it that is listed.
 pub fn nothing_is_left_out()
     ensures { NothingIsLeftOut }
+{}
+
+/// A line of what several parties lack names exactly those, and of one alone it is the line of that.
+pub fn lines_name_all()
+    ensures { LinesNameAll }
 {}
 
 /// What a branch is said to pay or to lead to is what its step makes in the calculus.

@@ -11,11 +11,11 @@ returns-in-Ok g c =
     let party = option_map (λ p. p.now) c.args.party in
     let s = setup_in g.H.Hash32.digest_of c.args.world.now in
     subst (λ (p : Printed). IfOk c.told_reply.result (λ reply. printed reply ≡ p))
-    (told_path party s c.args.config.now c.args.world.now.world c.as_slice.result.now c.in-Ok.ensures.looked.calm
+    (told_path c.args.form party s c.args.config.now c.args.world.now.world c.as_slice.result.now c.in-Ok.ensures.looked.calm
     (c.as_slice.ensures ∙ c.in-Ok.ensures.looked.outlooks))
     c.told_reply.ensures
 
 pub returns-in-Err : goal.returns-in-Err
 returns-in-Err g c =
-    halted_is (option_map (λ p. p.now) c.args.party) g.H.Hash32.digest_of c.args.config.now c.args.world.now c.outlooks.new.world c.in-Err.halt c.halt_reply.result c.requires
+    halted_is c.args.form (option_map (λ p. p.now) c.args.party) g.H.Hash32.digest_of c.args.config.now c.args.world.now c.outlooks.new.world c.in-Err.halt c.halt_reply.result c.requires
     c.in-Err.ensures.stopped c.halt_reply.ensures

@@ -23,7 +23,7 @@ returns-in-Err g c =
     let s : Setup = setup_of (g.H.Hash32.digest_of c.args.hash) c.args.run.now c.args.contracts.items in
     let es = c.args.run.now.events in
     halted_told c.halt_reply.result s es c.in-Err.halt _ c.in-Err.ensures.halted c.halt_reply.ensures
-    (λ reply. halted_if_whole s es reply (next_printed (option_map (λ p. p.now) c.args.party)))
+    (λ reply. halted_if_whole s es reply (next_printed c.args.form (option_map (λ p. p.now) c.args.party)))
 
 pub returns-in-Ok : goal.returns-in-Ok
 returns-in-Ok g c =
@@ -32,5 +32,5 @@ returns-in-Ok g c =
     let left = c.in-Ok.world in
     let w : IsWhole digest s c.args.run.now.events left = c.in-Ok.ensures.whole in
     subst (λ (p : Printed). IfOk c.world_reply-reply.result (λ reply. printed reply ≡ p))
-    (whole_next (option_map (λ p. p.now) c.args.party) digest s c.args.run.now.events left w)
+    (whole_next c.args.form (option_map (λ p. p.now) c.args.party) digest s c.args.run.now.events left w)
     c.world_reply-reply.ensures

@@ -12,6 +12,7 @@ returns c = tells_all (record {
   never = c.requires.never;
   hands = c.requires.hands;
   listed = c.requires.listed;
+  together = c.requires.together;
   leads = c.requires.leads;
   last = c.requires.last;
   ready = c.requires.ready;

@@ -1,0 +1,12 @@
+use Rattle.std.proofs.Common.{◌≡◌, ◌++◌, map, drop}
+use Rattle.std.specs.Prelude.{filter, option_map}
+use Rattle.serde_json.specs.View.{view}
+use Rattle.spec_next.specs.JsonForm.{waits_value}
+use Rattle.spec_next.specs.Listed.{is_for_party}
+use Rattle.next_json.proofs.shown.waits_values.Given as goal
+
+abbrev pub invariant-loop-outlook : goal.invariant-loop-outlook
+invariant-loop-outlook l =
+    let asked = option_map (λ p. p.now) l.party in
+    map view l.values.items ++ map (waits_value asked) (filter (is_for_party asked) (drop l.outlook-index l.outlooks))
+    ≡ map (waits_value asked) (filter (is_for_party asked) l.outlooks)

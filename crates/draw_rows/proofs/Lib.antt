@@ -1,0 +1,4 @@
+mod Lists
+mod Firsts
+mod Stepping
+pub mod Whole

@@ -14,9 +14,10 @@ use Rattle.spec_tool.specs.Reads.{Read, Text, text_at, texts_read, are_made}
 use Rattle.spec_deal.specs.declared.entry.Shown.{Shown}
 use Rattle.spec_deal.specs.declared.fault.SecretFault.TheVariants as secret_faults
 use Rattle.spec_deal.specs.declared.signed.Signed.{Signed}
-use Rattle.spec_deal.specs.Answers.{collides, of_deal, with_signatures, signatures_in, with_secrets, deal_text_answer}
+use Rattle.spec_deal.specs.Answers.{collides, of_deal, of_shown_deal, with_signatures, signatures_in, with_secrets, deal_text_answer}
 use Rattle.spec_deal.specs.SecretFile.{SecretsRead, refused as unusable, read_behind}
 use Rattle.spec_deal.specs.Verifier.{Verifier}
+use Rattle.spec_show.specs.ShowText.{show_text}
 use Rattle.spec_chain.specs.declared.fault.ChainFault.TheVariants as chain_faults
 use Rattle.spec_chain.specs.declared.reading.Reading.{Reading}
 use Rattle.spec_chain.specs.Chain.{Course, Followed, stands, refused, collided, follow_reading}
@@ -75,6 +76,8 @@ state_with_answer v hash chain signatures secrets keys s =
 -- what a command answers to the texts of its files
 abbrev pub chain_text_answer : Verifier → (List ℕ → List ℕ) → ChainCommand → List Text → Printed
 chain_text_answer v hash (commands.on_deal command) texts = deal_text_answer v hash command texts
+chain_text_answer v hash (commands.show contract deal) texts =
+    of_shown_deal v hash (λ network keys s. prints 0 (show_text hash network keys s)) texts
 chain_text_answer v hash (commands.state contract deal chain signatures) texts =
     of_deal v hash (state_answer v hash (text_at texts 2) (text_at texts 3)) texts
 chain_text_answer v hash (commands.state_with contract deal chain signatures secrets) texts =

@@ -21,9 +21,9 @@ use Rattle.spec_deal.specs.declared.entry.Shown.{Shown}
 use Rattle.spec_deal.specs.declared.signed.Signed.{Signed}
 use Rattle.spec_deal.specs.declared.transaction.Transaction.{Transaction}
 use Rattle.spec_deal.specs.Finished.{bytes_or_none, label_party, which_branch, predicate_holds}
-use Rattle.spec_deal.specs.Given.{missing}
+use Rattle.spec_deal.specs.Given.{missing, is_unverified}
 use Rattle.spec_deal.specs.SecretFile.{string_for}
-use Rattle.spec_deal.specs.Slots.{Slot, is_endorsement}
+use Rattle.spec_deal.specs.Slots.{Slot, slots, is_endorsement}
 use Rattle.spec_deal.specs.Transactions.{transactions}
 use Rattle.spec_chain.specs.declared.output.Held.TheVariants.{Deposit, Position, Payout}
 use Rattle.spec_chain.specs.declared.output.Output.{Output}
@@ -80,10 +80,18 @@ is_needed_for names.Init slot = same_which slot.which names.Init || is_endorseme
 is_needed_for (names.At path) slot = same_which slot.which (names.At path)
 
 abbrev pub signature_requirement : Slot → Requirement
-signature_requirement slot = requirements.Signature slot.which slot.input slot.label slot.verb
+signature_requirement slot = elim slot.wallet [
+  | None ↦ requirements.Signature slot.which slot.input slot.label slot.verb
+  | Some w ↦ requirements.Wallet slot.which slot.input w.deposit (label_party slot.label) slot.verb
+]
 
 abbrev pub signature_requirements : (List ℕ → List ℕ) → Keys → Instance → List Signed → Which → List Requirement
 signature_requirements hash keys s given which = map signature_requirement (filter (is_needed_for which) (missing hash keys s given))
+
+-- the witnesses of wallets among those that are there
+abbrev pub unverified_for : (List ℕ → List ℕ) → Keys → Instance → List Signed → Which → List Slot
+unverified_for hash keys s given which =
+    filter (λ slot. is_needed_for which slot && is_unverified hash keys given slot) (slots hash keys s)
 
 abbrev pub puts_by : Option term.Guarded → List (List ℕ)
 puts_by None = []
@@ -136,6 +144,7 @@ outstanding hash keys s given strings state tip which =
 abbrev pub is_never : Requirement → Bool
 is_never (requirements.Height height) = false
 is_never (requirements.Signature which input label verb) = false
+is_never (requirements.Wallet which input deposit owner verb) = false
 is_never (requirements.Deposit name) = false
 is_never (requirements.Secret name party) = false
 is_never requirements.DepositGone = true
@@ -145,6 +154,7 @@ is_never requirements.PredicateFalse = true
 abbrev pub is_of : List ℕ → Requirement → Bool
 is_of party (requirements.Height height) = false
 is_of party (requirements.Signature which input label verb) = bytes_eq (label_party label) party
+is_of party (requirements.Wallet which input deposit owner verb) = bytes_eq owner party
 is_of party (requirements.Deposit name) = false
 is_of party (requirements.Secret name holder) = bytes_eq holder party
 is_of party requirements.DepositGone = false

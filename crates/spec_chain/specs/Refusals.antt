@@ -53,12 +53,19 @@ opens hash script witness =
     && (bytes_eq (script_of witness) script
     && (not (list_any is_long (items_of witness)) && script_meaning hash takes_all script (items_of witness)))
 
+-- whether a witness opens what an input spends: of a wallet's nothing but an item is asked
+abbrev pub opens_input : (List ℕ → List ℕ) → Input → List (List ℕ) → Bool
+opens_input hash i witness = elim i.wallet [
+  | None ↦ opens hash i.spent.script witness
+  | Some w ↦ is_filled witness
+]
+
 -- the first witness from input k on that doesn't open what the input spends
 abbrev pub witnesses_reason : (List ℕ → List ℕ) → ℕ → List Input → List TxIn → Option ChainReason
 witnesses_reason hash k [] ins = None
 witnesses_reason hash k (i ∷ is) [] = None
 witnesses_reason hash k (i ∷ is) (x ∷ xs) =
-    if opens hash i.spent.script x.witness then witnesses_reason hash (k + 1) is xs else Some (reasons.Witness k)
+    if opens_input hash i x.witness then witnesses_reason hash (k + 1) is xs else Some (reasons.Witness k)
 
 -- the branch that is shown has another transaction
 abbrev pub branch_reason : List Transaction → Tx → Which → Option ChainReason

@@ -13,8 +13,10 @@ use Rattle.spec_tool.specs.declared.which.Which.{Which}
 use Rattle.spec_tool.specs.Keyed.Listed.{which_text}
 use Rattle.spec_deal.specs.declared.entry.Shown.{Shown}
 use Rattle.spec_deal.specs.declared.signed.Signed.{Signed}
-use Rattle.spec_deal.specs.DealText.{line_of, verb_text}
+use Rattle.spec_deal.specs.DealText.{line_of, verb_text, slot_words}
 use Rattle.spec_deal.specs.SecretFile.{string_for}
+use Rattle.spec_deal.specs.Slots.{Slot}
+use Rattle.spec_deal.specs.Wallets.{wallet_text}
 use Rattle.spec_chain.specs.declared.happened.Happened.{Happened}
 use Rattle.spec_chain.specs.declared.output.Held.TheVariants.{Deposit, Position, Payout}
 use Rattle.spec_chain.specs.declared.output.Output.{Output}
@@ -22,7 +24,7 @@ use Rattle.spec_chain.specs.declared.requirement.Requirement.{Requirement}
 use Rattle.spec_chain.specs.declared.requirement.Requirement.TheVariants as requirements
 use Rattle.spec_chain.specs.Chain.{Course}
 use Rattle.spec_chain.specs.Following.{State}
-use Rattle.spec_chain.specs.Outstanding.{asked, known, outstanding, awaited}
+use Rattle.spec_chain.specs.Outstanding.{asked, known, outstanding, unverified_for, awaited}
 
 -- a txid as wallets show it, with its bytes reversed
 abbrev pub txid_text : List ℕ → List ℕ
@@ -84,6 +86,8 @@ abbrev pub requirement_words : Requirement → List (List ℕ)
 requirement_words (requirements.Height height) = codes "needs height" ∷ decimal height ∷ []
 requirement_words (requirements.Signature which input label verb) =
     codes "needs signature" ∷ which_text which ∷ decimal input ∷ label_text label ∷ verb_text verb ∷ []
+requirement_words (requirements.Wallet which input deposit owner verb) =
+    codes "needs signature" ∷ which_text which ∷ decimal input ∷ wallet_text deposit ∷ verb_text verb ∷ []
 requirement_words (requirements.Deposit name) = codes "needs deposit" ∷ name ∷ []
 requirement_words (requirements.Secret name party) = codes "needs secret" ∷ name ∷ codes "of" ∷ party ∷ []
 requirement_words requirements.DepositGone = codes "never: deposit gone" ∷ []
@@ -92,10 +96,13 @@ requirement_words requirements.PredicateFalse = codes "never: predicate false" �
 abbrev pub requirement_line : Requirement → List ℕ
 requirement_line requirement = line_of (requirement_words requirement)
 
--- a transaction that these are missing for
-abbrev pub prospect_text : Which → List Requirement → List ℕ
-prospect_text which [] = line_of (codes "can" ∷ which_text which ∷ [])
-prospect_text which (w ∷ ws) = line_of (codes "cannot" ∷ which_text which ∷ []) ++ flat_map requirement_line (w ∷ ws)
+abbrev pub unverified_line : Slot → List ℕ
+unverified_line slot = line_of (codes "unverified" ∷ slot_words slot)
+
+-- a transaction that these are missing for; below one that can come, the witnesses of wallets that it counts on
+abbrev pub prospect_text : Which → List Slot → List Requirement → List ℕ
+prospect_text which unverified [] = line_of (codes "can" ∷ which_text which ∷ []) ++ flat_map unverified_line unverified
+prospect_text which unverified (w ∷ ws) = line_of (codes "cannot" ∷ which_text which ∷ []) ++ flat_map requirement_line (w ∷ ws)
 
 abbrev pub waits_line : List ℕ → List ℕ
 waits_line party = line_of (codes "waits" ∷ party ∷ [])
@@ -106,7 +113,9 @@ all_outstanding hash keys s given strings state tip = map (outstanding hash keys
 
 abbrev pub prospects_text : (List ℕ → List ℕ) → Keys → Instance → List Signed → List Shown → State → ℕ → List ℕ
 prospects_text hash keys s given strings state tip =
-    flat_map (λ which. prospect_text which (outstanding hash keys s given strings state tip which)) (asked s state)
+    flat_map
+    (λ which. prospect_text which (unverified_for hash keys s given which) (outstanding hash keys s given strings state tip which))
+    (asked s state)
     ++ flat_map waits_line (awaited s (all_outstanding hash keys s given strings state tip))
 
 -- ---- all of it

@@ -11,6 +11,8 @@ pub enum Requirement {
     Height(u32),
     /// The signature of this input, counted from 0, of a transaction, by the key of this label.
     Signature(Which, u32, Label, Verb),
+    /// The witness of this input, counted from 0, of a transaction, by the wallet of the deposit of this name, which this party owns.
+    Wallet(Which, u32, Name, Name, Verb),
     /// The deposit of this name, which isn't live.
     Deposit(Name),
     /// The secret of this name, which this party holds.
@@ -26,6 +28,7 @@ impl Drop for Requirement {
         match self {
             Requirement::Height(_)
             | Requirement::Signature(_, _, _, _)
+            | Requirement::Wallet(_, _, _, _, _)
             | Requirement::Deposit(_)
             | Requirement::Secret(_, _)
             | Requirement::DepositGone

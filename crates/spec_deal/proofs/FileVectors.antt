@@ -1,7 +1,7 @@
 -- Test vectors of deals, each by computation alone: what is needed, what deal files give, and why they are refused.
 use Rattle.std.proofs.Common.{◌≡◌, ℕ, List, [], ◌∷◌, ◌++◌, refl}
 use Rattle.std.specs.List.{flat_map}
-use Rattle.std.specs.Prelude.{codes, replicate, fold, false, not, ◌+◌, ◌*◌, ◌/◌, ◌%◌, Result, Ok, Err}
+use Rattle.std.specs.Prelude.{codes, replicate, fold, false, not, ◌+◌, ◌*◌, ◌/◌, ◌%◌, None, Result, Ok, Err}
 use Rattle.std.specs.Fmt.{digits}
 use Rattle.std.specs.Str.{bytes_eq}
 use Rattle.spec_data.specs.Digits.{read_hex}
@@ -172,7 +172,7 @@ abbrev pub bet_file : List ℕ
 bet_file = file (line_1 ∷ line_2 ∷ line_3 ∷ line_4 ∷ line_5 ∷ line_6 ∷ line_7 ∷ line_8 ∷ line_9 ∷ line_10 ∷ line_11 ∷ [])
 
 abbrev pub no_deal : Deal
-no_deal = record { keys = []; deposits = []; hashes = [] }
+no_deal = record { keys = []; deposits = []; hashes = []; network = None; wallets = []; payees = [] }
 
 abbrev pub or_no_deal : Result Deal DealFault → Deal
 or_no_deal (Ok deal) = deal

@@ -51,7 +51,7 @@ changed change p = record p { inputs = first_changed change p.inputs }
 abbrev init_with : (PsbtInput → PsbtInput) → List ℕ
 init_with change = elim (listed_at weigh keys (setting twin) names.Init) [
   | None ↦ []
-  | Some l ↦ psbt_line (changed change (unsigned_psbt weigh l))
+  | Some l ↦ psbt_line (changed change (unsigned_psbt weigh keys twin l))
 ]
 
 -- with a signature by this key

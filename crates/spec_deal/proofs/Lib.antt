@@ -2,3 +2,9 @@ pub mod FileVectors
 pub mod ShapeVectors
 pub mod SignatureVectors
 pub mod GivenVectors
+pub mod PayeeVectors
+pub mod WalletVectors
+pub mod WitnessVectors
+pub mod WarnVectors
+pub mod ReadyVectors
+pub mod HashesVectors

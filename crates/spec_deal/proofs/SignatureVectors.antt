@@ -52,7 +52,7 @@ told advert signed = missing_text weigh keys (setting advert) signed
 -- a signature for each
 abbrev pub sign : List Slot → List Signed
 sign required =
-    map (λ slot. record { tx = slot_bytes slot; input = slot.input; key = slot_key weigh keys slot; signature = replicate 16 5 }) required
+    map (λ slot. record { tx = slot_bytes slot; input = slot.input; key = slot_key weigh keys slot; signature = replicate 16 5; witness = [] }) required
 
 -- whether it is by the key of this label, for the transaction of this name
 abbrev pub is_this : List ℕ → List ℕ → Slot → Bool
@@ -246,7 +246,7 @@ empty_file = refl
 abbrev pub one_line : Advert → List ℕ
 one_line advert = elim (listed_at weigh keys (setting advert) names.Init) [
   | None ↦ []
-  | Some l ↦ psbt_line (unsigned_psbt weigh l)
+  | Some l ↦ psbt_line (unsigned_psbt weigh keys advert l)
 ]
 
 pub prefix_alone : file_refusal (codes "cHNidP8=")

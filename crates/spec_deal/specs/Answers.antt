@@ -10,25 +10,28 @@
 -- 13  the deal file is refused
 -- 14  the file of signatures is refused
 -- 15  the file of secrets is refused
--- 16  the contract has no such path, or a transaction can't be finished
+-- 16  the contract has no such path, or a transaction can't be finished, or the initial one may not be signed yet
 --
 -- The first that applies is answered, in this order: the words; the reads, in the order of the words; the contract; the deal file, but
--- for a deposit that the deal itself makes; the strings of the compiled deal; such a deposit; the path; the file of signatures; that of
--- secrets, whose strings collide at their lines; what is missing.
-use Rattle.std.specs.Prelude.{ℕ, List, [], ◌∷◌, ◌++◌, length, Bool, ◌==◌, Option, Some, None, Result, Ok, Err}
+-- for a deposit that the deal itself makes and a payout to one of its positions; the strings of the compiled deal; such a deposit or payout;
+-- the path; the file of signatures; that of secrets, whose strings collide at their lines; what is missing.
+use Rattle.std.specs.Prelude.{ℕ, List, [], ◌∷◌, ◌++◌, length, Bool, false, ◌==◌, if◌then◌else◌, Option, Some, None, Result, Ok, Err}
 use Rattle.std.specs.Prelude.{codes}
 use Rattle.std.specs.List.{find, list_any}
-use Rattle.std.specs.Option.{option_map}
+use Rattle.std.specs.Option.{option_map, option_map_or}
 use Rattle.std.specs.Str.{bytes_eq}
 use Rattle.spec_data.specs.Digits.{hex_text}
+use Rattle.spec_data.specs.Lists.{or_else}
 use Rattle.spec_data.specs.Messages.{collision}
 use Rattle.spec_terms.specs.Advert.{Advert}
 use Rattle.spec_bitcoin.specs.declared.tx.OutPoint.{OutPoint}
 use Rattle.spec_bitcoin.specs.Digests.{txid}
+use Rattle.spec_bitcoin.specs.Keys.{pay_to}
 use Rattle.spec_bitcoin.specs.Spelling.{spelling}
-use Rattle.spec_compiler.specs.Keyed.Keys.{Keys}
-use Rattle.spec_compiler.specs.Keyed.Instance.{Instance}
+use Rattle.spec_compiler.specs.Keyed.Keys.{Keys, own_payee}
+use Rattle.spec_compiler.specs.Keyed.Instance.{Instance, people}
 use Rattle.spec_compiler.specs.Keyed.Transactions.{tx_of}
+use Rattle.spec_compiler.specs.Keyed.Compilation.{scripts}
 use Rattle.spec_text.specs.PlayText.{collided_line}
 use Rattle.spec_text.specs.Refusals.{Judged}
 use Rattle.spec_text.specs.RunText.{newline}
@@ -48,11 +51,16 @@ use Rattle.spec_deal.specs.declared.fault.SecretFault.TheVariants as secret_faul
 use Rattle.spec_deal.specs.declared.finish.FinishRefusal.{FinishRefusal}
 use Rattle.spec_deal.specs.Commands as commands
 use Rattle.spec_deal.specs.Commands.{DealCommand, deal_files}
-use Rattle.spec_deal.specs.DealFile.{read_deal}
+use Rattle.spec_deal.specs.DealFile.{read_deal, read_part}
 use Rattle.spec_deal.specs.DealText.{line_of, keys_text, plan_text, psbts_text, unsigned_psbt, missing_text, held_text}
 use Rattle.spec_deal.specs.Finished.{finished, finish_refusal}
 use Rattle.spec_deal.specs.Hashed.{deal_strings}
 use Rattle.spec_deal.specs.RefusedText.{deal_refused_line, signatures_refused_line, secrets_refused_line, finish_refused_line}
+use Rattle.spec_deal.specs.FundText.{fund_strings, fund_text}
+use Rattle.spec_deal.specs.WarnText.{warn_text}
+use Rattle.spec_deal.specs.ReadyText.{is_ready, ready_text, endorse_text}
+use Rattle.spec_deal.specs.HashesText.{read_offered, hashes_text}
+use Rattle.spec_deal.specs.declared.entry.Entry.{Entry}
 use Rattle.spec_deal.specs.declared.entry.Shown.{Shown}
 use Rattle.spec_deal.specs.SecretFile.{SecretsRead, shows, refused, collided, read_secrets}
 use Rattle.spec_deal.specs.Setting.{deal_keys, deal_instance}
@@ -75,8 +83,23 @@ abbrev pub is_made_here : (List ℕ → List ℕ) → Keys → Instance → OutP
 is_made_here hash keys s place = list_any (λ l. bytes_eq (txid hash (tx_of l.pending)) place.txid) (listed hash keys s)
 
 -- the first deposit that would be made by one of the deal's own transactions
+abbrev pub circular_deposit : (List ℕ → List ℕ) → Keys → Instance → Option (List ℕ)
+circular_deposit hash keys s = option_map (λ p. p.0) (find (λ p. is_made_here hash keys s (p.1)) s.bound)
+
+-- whether one of the deal's own positions has this output script
+abbrev pub is_position_script : (List ℕ → List ℕ) → Keys → Instance → List ℕ → Bool
+is_position_script hash keys s script = list_any (λ p. bytes_eq (pay_to (hash (p.1))) script) (scripts hash keys s)
+
+-- whether what a participant is paid would go to one of them
+abbrev pub is_paid_here : (List ℕ → List ℕ) → Keys → Instance → List ℕ → Bool
+is_paid_here hash keys s party = option_map_or (is_position_script hash keys s) (own_payee keys party) false
+
+-- the first such participant
+abbrev pub circular_payee : (List ℕ → List ℕ) → Keys → Instance → Option (List ℕ)
+circular_payee hash keys s = find (is_paid_here hash keys s) (people s)
+
 abbrev pub circular : (List ℕ → List ℕ) → Keys → Instance → Option (List ℕ)
-circular hash keys s = option_map (λ p. p.0) (find (λ p. is_made_here hash keys s (p.1)) s.bound)
+circular hash keys s = or_else (circular_deposit hash keys s) (circular_payee hash keys s)
 
 abbrev pub unless_circular : Option (List ℕ) → Printed → Printed
 unless_circular None answer = answer
@@ -107,6 +130,27 @@ deal_in v advert (Some text) = read_deal v advert text
 abbrev pub of_deal : Verifier → (List ℕ → List ℕ) → (Keys → Instance → Printed) → List Text → Printed
 of_deal v hash answer texts =
     with_advert (λ advert. with_deal hash answer advert (deal_in v advert (text_at texts 1))) (contract_in (text_at texts 0))
+
+-- the same of a command that shows addresses, by the network of the file
+abbrev pub with_shown_deal : (List ℕ → List ℕ) → (Option (List ℕ) → Keys → Instance → Printed) → Advert → Result Deal DealFault → Printed
+with_shown_deal hash answer advert (Err fault) = deal_refused fault
+with_shown_deal hash answer advert (Ok deal) = with_deal hash (answer deal.network) advert (Ok deal)
+
+abbrev pub of_shown_deal : Verifier → (List ℕ → List ℕ) → (Option (List ℕ) → Keys → Instance → Printed) → List Text → Printed
+of_shown_deal v hash answer texts =
+    with_advert (λ advert. with_shown_deal hash answer advert (deal_in v advert (text_at texts 1))) (contract_in (text_at texts 0))
+
+-- ---- a deal file that may lack lines
+
+-- what its lines give, or why it is refused
+abbrev pub part_in : Verifier → Advert → Text → Result (List Entry) DealFault
+part_in v advert None = Err deal_faults.Size
+part_in v advert (Some text) = read_part v advert text
+
+abbrev pub fund_answer : (List ℕ → List ℕ) → Advert → Result (List Entry) DealFault → Printed
+fund_answer hash advert (Err fault) = deal_refused fault
+fund_answer hash advert (Ok entries) =
+    unless_collided (collision hash [] (fund_strings advert entries)) (prints 0 (fund_text hash advert entries))
 
 -- ---- one of its transactions
 
@@ -148,6 +192,31 @@ abbrev pub secrets_in : (List ℕ → List ℕ) → Keys → Instance → Text �
 secrets_in hash keys s None = refused secret_faults.Size
 secrets_in hash keys s (Some text) = read_secrets hash keys s text
 
+-- what is answered of the secrets of a file
+abbrev pub of_secrets : (List ℕ → List ℕ) → (Keys → Instance → List Shown → Printed) → Text → Keys → Instance → Printed
+of_secrets hash answer text keys s = with_secrets (answer keys s) (secrets_in hash keys s text)
+
+-- ---- hashes of secrets
+
+-- the strings of a file of secrets that no deal has yet
+abbrev pub offered_in : (List ℕ → List ℕ) → Advert → Text → SecretsRead
+offered_in hash advert None = refused secret_faults.Size
+offered_in hash advert (Some text) = read_offered hash advert text
+
+abbrev pub hashes_answer : (List ℕ → List ℕ) → Text → Advert → Printed
+hashes_answer hash text advert = with_secrets (λ strings. prints 0 (hashes_text hash strings)) (offered_in hash advert text)
+
+-- ---- before the initial transaction is signed
+
+abbrev pub ready_answer : (List ℕ → List ℕ) → Keys → Instance → List Signed → List Shown → Printed
+ready_answer hash keys s given strings =
+    prints (if is_ready hash keys s given then 0 else 16) (ready_text hash keys s given strings)
+
+abbrev pub ready_with_answer : Verifier → (List ℕ → List ℕ) → Text → Text → Keys → Instance → Printed
+ready_with_answer v hash signatures secrets keys s =
+    with_signatures (λ given. with_secrets (λ strings. ready_answer hash keys s given strings) (secrets_in hash keys s secrets))
+    (signatures_in v hash keys s signatures)
+
 -- ---- finished transactions
 
 abbrev pub unless_refused : Option FinishRefusal → List ℕ → Printed
@@ -174,10 +243,11 @@ finish_with_answer v hash signatures secrets keys s l =
 -- what a command answers to the texts of its files
 abbrev pub deal_text_answer : Verifier → (List ℕ → List ℕ) → DealCommand → List Text → Printed
 deal_text_answer v hash (commands.keys contract) texts = with_advert (λ advert. prints 0 (keys_text advert)) (contract_in (text_at texts 0))
-deal_text_answer v hash (commands.plan contract deal) texts = of_deal v hash (λ keys s. prints 0 (plan_text hash keys s)) texts
+deal_text_answer v hash (commands.plan contract deal) texts =
+    of_shown_deal v hash (λ network keys s. prints 0 (plan_text hash network keys s)) texts
 deal_text_answer v hash (commands.psbts contract deal) texts = of_deal v hash (λ keys s. prints 0 (psbts_text hash keys s)) texts
 deal_text_answer v hash (commands.psbt contract deal which) texts =
-    of_deal v hash (of_transaction hash which (λ keys s l. prints 0 (psbt_line (unsigned_psbt hash l)))) texts
+    of_deal v hash (of_transaction hash which (λ keys s l. prints 0 (psbt_line (unsigned_psbt hash keys s.advert l)))) texts
 deal_text_answer v hash (commands.missing contract deal signatures) texts =
     of_deal v hash (of_signatures v hash (λ keys s given. prints 0 (missing_text hash keys s given)) (text_at texts 2)) texts
 deal_text_answer v hash (commands.held contract deal signatures) texts =
@@ -186,6 +256,19 @@ deal_text_answer v hash (commands.finish contract deal which signatures) texts =
     of_deal v hash (of_transaction hash which (finish_answer v hash (text_at texts 2))) texts
 deal_text_answer v hash (commands.finish_with contract deal which signatures secrets) texts =
     of_deal v hash (of_transaction hash which (finish_with_answer v hash (text_at texts 2) (text_at texts 3))) texts
+deal_text_answer v hash (commands.fund contract deal) texts =
+    with_advert (λ advert. fund_answer hash advert (part_in v advert (text_at texts 1))) (contract_in (text_at texts 0))
+deal_text_answer v hash (commands.warn contract deal) texts = of_deal v hash (λ keys s. prints 0 (warn_text hash keys s [])) texts
+deal_text_answer v hash (commands.warn_with contract deal secrets) texts =
+    of_deal v hash (of_secrets hash (λ keys s strings. prints 0 (warn_text hash keys s strings)) (text_at texts 2)) texts
+deal_text_answer v hash (commands.ready contract deal signatures) texts =
+    of_deal v hash (of_signatures v hash (λ keys s given. ready_answer hash keys s given []) (text_at texts 2)) texts
+deal_text_answer v hash (commands.ready_with contract deal signatures secrets) texts =
+    of_deal v hash (ready_with_answer v hash (text_at texts 2) (text_at texts 3)) texts
+deal_text_answer v hash (commands.endorse contract deal party) texts =
+    of_deal v hash (λ keys s. prints 0 (endorse_text hash keys s party)) texts
+deal_text_answer v hash (commands.hashes contract secrets) texts =
+    with_advert (hashes_answer hash (text_at texts 1)) (contract_in (text_at texts 0))
 
 abbrev pub deal_read_answer : Verifier → (List ℕ → List ℕ) → DealCommand → Option (List Text) → Printed
 deal_read_answer v hash command None = unread

@@ -25,6 +25,20 @@ pub data DealCommand : Type 0 where
   finish : (contract : List ℕ) → (deal : List ℕ) → (which : Which) → (signatures : List ℕ) → DealCommand
   -- prints one that may reveal secrets
   finish_with : (contract : List ℕ) → (deal : List ℕ) → (which : Which) → (signatures : List ℕ) → (secrets : List ℕ) → DealCommand
+  -- prints where deposits and payouts go, by a deal file that may lack lines
+  fund : (contract : List ℕ) → (deal : List ℕ) → DealCommand
+  -- prints what nodes wouldn't relay
+  warn : (contract : List ℕ) → (deal : List ℕ) → DealCommand
+  -- the same, with secrets
+  warn_with : (contract : List ℕ) → (deal : List ℕ) → (secrets : List ℕ) → DealCommand
+  -- prints it, and whether the initial transaction may be signed
+  ready : (contract : List ℕ) → (deal : List ℕ) → (signatures : List ℕ) → DealCommand
+  -- the same, with secrets
+  ready_with : (contract : List ℕ) → (deal : List ℕ) → (signatures : List ℕ) → (secrets : List ℕ) → DealCommand
+  -- prints the transactions that a party endorses, for signers
+  endorse : (contract : List ℕ) → (deal : List ℕ) → (party : List ℕ) → DealCommand
+  -- prints the hashes of secrets, as lines of a deal file
+  hashes : (contract : List ℕ) → (secrets : List ℕ) → DealCommand
 
 -- ---- words
 
@@ -55,6 +69,28 @@ finish_words (contract ∷ deal ∷ word ∷ signatures ∷ secrets ∷ []) =
     which_of word >>= λ which. Some (finish_with contract deal which signatures secrets)
 finish_words _ = None
 
+abbrev pub fund_words : List (List ℕ) → Option DealCommand
+fund_words (contract ∷ deal ∷ []) = Some (fund contract deal)
+fund_words _ = None
+
+abbrev pub warn_words : List (List ℕ) → Option DealCommand
+warn_words (contract ∷ deal ∷ []) = Some (warn contract deal)
+warn_words (contract ∷ deal ∷ secrets ∷ []) = Some (warn_with contract deal secrets)
+warn_words _ = None
+
+abbrev pub ready_words : List (List ℕ) → Option DealCommand
+ready_words (contract ∷ deal ∷ signatures ∷ []) = Some (ready contract deal signatures)
+ready_words (contract ∷ deal ∷ signatures ∷ secrets ∷ []) = Some (ready_with contract deal signatures secrets)
+ready_words _ = None
+
+abbrev pub endorse_words : List (List ℕ) → Option DealCommand
+endorse_words (contract ∷ deal ∷ party ∷ []) = Some (endorse contract deal party)
+endorse_words _ = None
+
+abbrev pub hashes_words : List (List ℕ) → Option DealCommand
+hashes_words (contract ∷ secrets ∷ []) = Some (hashes contract secrets)
+hashes_words _ = None
+
 -- the command that the words are, if they are one
 abbrev pub deal_command_of : List (List ℕ) → Option DealCommand
 deal_command_of [] = None
@@ -65,6 +101,11 @@ deal_command_of (word ∷ words) =
     else if bytes_eq word (codes "missing") then missing_words words
     else if bytes_eq word (codes "held") then held_words words
     else if bytes_eq word (codes "finish") then finish_words words
+    else if bytes_eq word (codes "fund") then fund_words words
+    else if bytes_eq word (codes "warn") then warn_words words
+    else if bytes_eq word (codes "ready") then ready_words words
+    else if bytes_eq word (codes "endorse") then endorse_words words
+    else if bytes_eq word (codes "hashes") then hashes_words words
     else None
 
 -- ---- files
@@ -89,3 +130,11 @@ deal_files (held contract deal signatures) = contract_file contract ∷ deal_fil
 deal_files (finish contract deal which signatures) = contract_file contract ∷ deal_file deal ∷ signature_file signatures ∷ []
 deal_files (finish_with contract deal which signatures secrets) =
     contract_file contract ∷ deal_file deal ∷ signature_file signatures ∷ secrets_file secrets ∷ []
+deal_files (fund contract deal) = contract_file contract ∷ deal_file deal ∷ []
+deal_files (warn contract deal) = contract_file contract ∷ deal_file deal ∷ []
+deal_files (warn_with contract deal secrets) = contract_file contract ∷ deal_file deal ∷ secrets_file secrets ∷ []
+deal_files (ready contract deal signatures) = contract_file contract ∷ deal_file deal ∷ signature_file signatures ∷ []
+deal_files (ready_with contract deal signatures secrets) =
+    contract_file contract ∷ deal_file deal ∷ signature_file signatures ∷ secrets_file secrets ∷ []
+deal_files (endorse contract deal party) = contract_file contract ∷ deal_file deal ∷ []
+deal_files (hashes contract secrets) = contract_file contract ∷ secrets_file secrets ∷ []

@@ -1,7 +1,7 @@
 -- Transactions with the witnesses (BIP 141) that the given signatures and secrets make, or what is missing for them.
 use Rattle.std.specs.Prelude.{ℕ, ◌+◌, List, [], ◌∷◌, ◌++◌, length, map, Bool, not, ◌&&◌, ◌==◌, Option, Some, None, is_some}
 use Rattle.std.specs.Prelude.{if◌then◌else◌}
-use Rattle.std.specs.List.{find}
+use Rattle.std.specs.List.{find, flat_map}
 use Rattle.std.specs.Option.{option_map, option_map_or}
 use Rattle.spec_data.specs.Lists.{or_else}
 use Rattle.spec_terms.specs.Term as term
@@ -28,7 +28,9 @@ use Rattle.spec_deal.specs.declared.signed.Signed.{Signed}
 use Rattle.spec_deal.specs.declared.finish.FinishRefusal.{FinishRefusal}
 use Rattle.spec_deal.specs.declared.finish.FinishRefusal.TheVariants as refusals
 use Rattle.spec_deal.specs.Slots.{Slot, input_slots, listed_slots}
-use Rattle.spec_deal.specs.Given.{has, signature_for, first_unendorsed}
+use Rattle.spec_deal.specs.declared.transaction.Wallet.{Wallet}
+use Rattle.spec_deal.specs.Given.{has, signature_for, witness_for, first_unendorsed}
+use Rattle.spec_deal.specs.Wallets.{input_wallet}
 use Rattle.spec_deal.specs.declared.entry.Shown.{Shown}
 use Rattle.spec_deal.specs.SecretFile.{string_for}
 
@@ -37,20 +39,32 @@ abbrev pub bytes_or_none : Option (List ℕ) → List ℕ
 bytes_or_none None = []
 bytes_or_none (Some bytes) = bytes
 
+-- a witness that was looked up
+abbrev pub items_or_none : Option (List (List ℕ)) → List (List ℕ)
+items_or_none None = []
+items_or_none (Some items) = items
+
 -- ---- witnesses
 
 -- the signatures of input k, which spends this, by the keys of these labels
 abbrev pub input_signatures : (List ℕ → List ℕ) → Keys → Instance → List Signed → Listed → ℕ → Spent → List Label → List (List ℕ)
 input_signatures hash keys s given l k spent labels =
-    map (λ slot. bytes_or_none (signature_for hash keys given slot)) (input_slots s.advert l k spent labels)
+    map (λ slot. bytes_or_none (signature_for hash keys given slot)) (input_slots keys s.advert l k spent labels)
 
--- the witnesses of the inputs from number k on, each of which spends a deposit: its owner's signature, and the script
+-- the witness of input k, which spends a deposit: its owner's signature, and the script; or what its wallet gave
+abbrev pub deposit_witness : (List ℕ → List ℕ) → Keys → Instance → List Signed → Listed → ℕ → Spent → List Label → Option Wallet
+    → List (List ℕ)
+deposit_witness hash keys s given l k spent labels None = input_signatures hash keys s given l k spent labels ++ spent.script ∷ []
+deposit_witness hash keys s given l k spent labels (Some w) =
+    flat_map (λ slot. items_or_none (witness_for hash keys given slot)) (input_slots keys s.advert l k spent labels)
+
+-- the witnesses of the inputs from number k on, each of which spends a deposit
 abbrev pub deposit_witnesses : (List ℕ → List ℕ) → Keys → Instance → List Signed → Listed → ℕ → List Spent → List (List Label)
     → List (List (List ℕ))
 deposit_witnesses hash keys s given l k [] signers = []
 deposit_witnesses hash keys s given l k (spent ∷ spends) [] = []
 deposit_witnesses hash keys s given l k (spent ∷ spends) (labels ∷ signers) =
-    (input_signatures hash keys s given l k spent labels ++ spent.script ∷ [])
+    deposit_witness hash keys s given l k spent labels (input_wallet keys s.advert l.which k)
     ∷ deposit_witnesses hash keys s given l (k + 1) spends signers
 
 -- how many branches a position has
@@ -105,11 +119,17 @@ abbrev pub endorsement_refusal : (List ℕ → List ℕ) → Keys → Instance �
 endorsement_refusal hash keys s given names.Init = option_map unendorsed_refusal (first_unendorsed hash keys s given)
 endorsement_refusal hash keys s given (names.At path) = None
 
+-- without this signature nobody takes the transaction
+abbrev pub unsigned_refusal : Slot → FinishRefusal
+unsigned_refusal slot = elim slot.wallet [
+  | None ↦ refusals.Signature slot.input slot.label
+  | Some w ↦ refusals.Wallet slot.input w.deposit
+]
+
 -- the first signature of the transaction that isn't there
 abbrev pub signature_refusal : (List ℕ → List ℕ) → Keys → Instance → List Signed → Listed → Option FinishRefusal
 signature_refusal hash keys s given l =
-    option_map (λ (slot : Slot). refusals.Signature slot.input slot.label)
-    (find (λ slot. not (has hash keys given slot)) (listed_slots s.advert l))
+    option_map unsigned_refusal (find (λ slot. not (has hash keys given slot)) (listed_slots keys s.advert l))
 
 -- the branch of a transaction
 abbrev pub which_branch : Instance → Which → Option term.Guarded

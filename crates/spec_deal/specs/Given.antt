@@ -1,5 +1,5 @@
 -- The signatures that were given, and those that are missing; whether all endorsements are there.
-use Rattle.std.specs.Prelude.{ℕ, List, filter, Bool, not, ◌&&◌, ◌==◌, Option}
+use Rattle.std.specs.Prelude.{ℕ, List, filter, Bool, not, ◌&&◌, ◌||◌, ◌==◌, Option, is_some}
 use Rattle.std.specs.List.{find, list_any, list_all}
 use Rattle.std.specs.Option.{option_map}
 use Rattle.std.specs.Str.{bytes_eq}
@@ -21,11 +21,32 @@ has hash keys given slot = list_any (is_for hash keys slot) given
 abbrev pub signature_for : (List ℕ → List ℕ) → Keys → List Signed → Slot → Option (List ℕ)
 signature_for hash keys given slot = option_map (λ (g : Signed). g.signature) (find (is_for hash keys slot) given)
 
+-- the items of a wallet's witness, where it is there
+abbrev pub witness_for : (List ℕ → List ℕ) → Keys → List Signed → Slot → Option (List (List ℕ))
+witness_for hash keys given slot = option_map (λ (g : Signed). g.witness) (find (is_for hash keys slot) given)
+
+-- whether it is a wallet's and there, so that it isn't verified whole
+abbrev pub is_unverified : (List ℕ → List ℕ) → Keys → List Signed → Slot → Bool
+is_unverified hash keys given slot = is_some slot.wallet && has hash keys given slot
+
+-- whether it is one that has to be there before anyone signs the initial transaction
+abbrev pub is_unverified_endorsement : (List ℕ → List ℕ) → Keys → List Signed → Slot → Bool
+is_unverified_endorsement hash keys given slot = is_endorsement slot.verb && is_unverified hash keys given slot
+
 -- ---- of a contract
 
 -- the signatures that aren't there, in order
 abbrev pub missing : (List ℕ → List ℕ) → Keys → Instance → List Signed → List Slot
 missing hash keys s given = filter (λ slot. not (has hash keys given slot)) (slots hash keys s)
+
+-- those that aren't there and, among them, the endorsements that aren't verified, in order
+abbrev pub unsettled : (List ℕ → List ℕ) → Keys → Instance → List Signed → List Slot
+unsettled hash keys s given =
+    filter (λ slot. not (has hash keys given slot) || is_unverified_endorsement hash keys given slot) (slots hash keys s)
+
+-- whether some endorsement that is there isn't verified
+abbrev pub has_unverified : (List ℕ → List ℕ) → Keys → Instance → List Signed → Bool
+has_unverified hash keys s given = list_any (is_unverified_endorsement hash keys given) (slots hash keys s)
 
 -- those that are there, in order
 abbrev pub held : (List ℕ → List ℕ) → Keys → Instance → List Signed → List Slot

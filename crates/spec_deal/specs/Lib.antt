@@ -2,6 +2,9 @@ pub mod Sizes
 pub mod Verifier
 pub mod Needed
 pub mod Setting
+pub mod Payable
+pub mod Wallets
+pub mod Used
 pub mod DealFile
 pub mod Slots
 pub mod Transactions
@@ -12,6 +15,10 @@ pub mod Hashed
 pub mod SecretFile
 pub mod Finished
 pub mod DealText
+pub mod FundText
+pub mod WarnText
+pub mod ReadyText
+pub mod HashesText
 pub mod RefusedText
 pub mod Commands
 pub mod Answers

@@ -1,5 +1,5 @@
 -- What a contract needs of wallets: a public key for each label, the place of each deposit, the hash of each secret.
-use Rattle.std.specs.Prelude.{ℕ, List, ◌++◌, map, Bool, false}
+use Rattle.std.specs.Prelude.{ℕ, List, ◌++◌, map, Bool, true, false}
 use Rattle.std.specs.List.{flat_map}
 use Rattle.std.specs.Str.{bytes_eq}
 use Rattle.spec_terms.specs.Advert.{Advert}
@@ -12,7 +12,7 @@ use Rattle.spec_bitcoin.specs.declared.label.Label.TheVariants as labels
 use Rattle.spec_bitcoin.specs.Keys.{label_text}
 use Rattle.spec_compiler.specs.Keyed.Instance.{branch_label}
 use Rattle.spec_deal.specs.declared.deal.Needed.{Needed}
-use Rattle.spec_deal.specs.declared.deal.Needed.TheVariants.{Key, Deposit, Hash}
+use Rattle.spec_deal.specs.declared.deal.Needed.TheVariants.{Key, Deposit, Hash, Network, Payee}
 
 -- the number of the only contract of a deal
 abbrev pub deal_contract : ℕ
@@ -50,9 +50,6 @@ abbrev pub same_needed : Needed → Needed → Bool
 same_needed (Key a) (Key b) = same_label a b
 same_needed (Deposit a) (Deposit b) = bytes_eq a b
 same_needed (Hash a) (Hash b) = bytes_eq a b
-same_needed (Key a) (Deposit b) = false
-same_needed (Key a) (Hash b) = false
-same_needed (Deposit a) (Key b) = false
-same_needed (Deposit a) (Hash b) = false
-same_needed (Hash a) (Key b) = false
-same_needed (Hash a) (Deposit b) = false
+same_needed Network Network = true
+same_needed (Payee a) (Payee b) = bytes_eq a b
+same_needed _ _ = false

@@ -17,6 +17,7 @@ use Rattle.spec_deal.specs.declared.fault.SecretFault.TheVariants as secret_faul
 use Rattle.spec_deal.specs.declared.finish.FinishRefusal.{FinishRefusal}
 use Rattle.spec_deal.specs.declared.finish.FinishRefusal.TheVariants as refusals
 use Rattle.spec_deal.specs.DealText.{line_of, needed_words}
+use Rattle.spec_deal.specs.Wallets.{wallet_text}
 
 -- `line` and its number, before the words of a reason
 abbrev pub at_line : ℕ → List (List ℕ) → List (List ℕ)
@@ -83,6 +84,7 @@ secrets_refused_line fault = line_of (codes "secrets refused" ∷ secret_fault_w
 abbrev pub finish_refusal_words : FinishRefusal → List (List ℕ)
 finish_refusal_words (refusals.Endorsement path party) = codes "endorsement" ∷ path_text path ∷ party ∷ []
 finish_refusal_words (refusals.Signature input label) = codes "signature" ∷ decimal input ∷ label_text label ∷ []
+finish_refusal_words (refusals.Wallet input deposit) = codes "signature" ∷ decimal input ∷ wallet_text deposit ∷ []
 finish_refusal_words (refusals.Secret name) = codes "secret" ∷ name ∷ []
 finish_refusal_words refusals.Predicate = codes "predicate" ∷ []
 

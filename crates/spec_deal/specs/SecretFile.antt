@@ -69,7 +69,7 @@ secret_line hash s messages taken n _ = bad reasons.Form
 abbrev pub state_words : List (List ℕ)
 state_words =
     codes "confirmed" ∷ codes "step" ∷ codes "gone" ∷ codes "live" ∷ codes "paid" ∷ codes "height" ∷ codes "can" ∷ codes "cannot"
-    ∷ codes "needs" ∷ codes "never:" ∷ codes "waits" ∷ []
+    ∷ codes "needs" ∷ codes "never:" ∷ codes "waits" ∷ codes "unverified" ∷ []
 
 -- what the words of line n say; those lines are read over
 abbrev pub line_says : (List ℕ → List ℕ) → Instance → List (List ℕ) → List Shown → ℕ → List (List ℕ) → Line

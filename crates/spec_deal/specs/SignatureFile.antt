@@ -1,11 +1,12 @@
 -- Files of signatures: what wallets signed, as partially signed transactions by BIP 174, a line each; or why a file is refused.
-use Rattle.std.specs.Prelude.{ℕ, ◌+◌, List, [], ◌∷◌, ◌++◌, length, take, drop, Bool, true, false, not, ◌&&◌, ◌||◌, ◌==◌, nat_lt}
+use Rattle.std.specs.Prelude.{ℕ, ◌+◌, List, [], ◌∷◌, ◌++◌, length, take, drop, Bool, true, false, not, ◌&&◌, ◌||◌, ◌==◌, nat_lt, slice_index}
 use Rattle.std.specs.Prelude.{if◌then◌else◌, Option, Some, None, Result, Ok, Err}
 use Rattle.std.specs.List.{find, list_any, list_all}
 use Rattle.std.specs.Str.{bytes_eq}
 use Rattle.spec_bitcoin.specs.declared.tx.TxOut.{TxOut}
 use Rattle.spec_bitcoin.specs.Keys.{key_bytes, deposit_script}
-use Rattle.spec_bitcoin.specs.Spelling.{stripped}
+use Rattle.spec_bitcoin.specs.Spelling.{stripped, is_filled}
+use Rattle.spec_compiler.specs.Keyed.OwnScripts.{pays_to_key_hash}
 use Rattle.spec_compiler.specs.Keyed.Keys.{Keys}
 use Rattle.spec_compiler.specs.Keyed.Instance.{Instance}
 use Rattle.spec_run.specs.Ledger.{same_output}
@@ -19,12 +20,17 @@ use Rattle.spec_deal.specs.declared.fault.SignatureReason.{SignatureReason}
 use Rattle.spec_deal.specs.declared.fault.SignatureReason.TheVariants as reasons
 use Rattle.spec_deal.specs.declared.fault.SignatureFault.{SignatureFault}
 use Rattle.spec_deal.specs.declared.fault.SignatureFault.TheVariants as faults
+use Rattle.spec_deal.specs.DealFile.{is_key}
+use Rattle.spec_deal.specs.Payable.{has_taproot_form}
+use Rattle.spec_deal.specs.Setting.{no_key}
 use Rattle.spec_deal.specs.Sizes.{most_signature_bytes}
 use Rattle.spec_deal.specs.Shape.{is_strict}
 use Rattle.spec_deal.specs.declared.transaction.Input.{Input}
 use Rattle.spec_deal.specs.declared.transaction.Transaction.{Transaction}
+use Rattle.spec_deal.specs.declared.transaction.Wallet.{Wallet}
 use Rattle.spec_deal.specs.Transactions.{Required, all_required, is_at, transactions}
 use Rattle.spec_deal.specs.Verifier.{Verifier}
+use Rattle.spec_deal.specs.Wallets.{first_item, second_item}
 
 -- the signatures so far, or why a line is bad
 abbrev pub Taken : Type 0
@@ -74,12 +80,12 @@ take_signature v required given g =
 abbrev pub take_signatures : Verifier → List Required → List ℕ → ℕ → List Signed → List Pairing → Taken
 take_signatures v required tx k given [] = Ok given
 take_signatures v required tx k given (p ∷ ps) =
-    elim (take_signature v required given (record { tx = tx; input = k; key = p.0; signature = p.1 })) [
+    elim (take_signature v required given (record { tx = tx; input = k; key = p.0; signature = p.1; witness = [] })) [
       | Ok more ↦ take_signatures v required tx k more ps
       | Err reason ↦ Err reason
     ]
 
--- ---- an input
+-- ---- an input that keys of the deal sign
 
 -- the key of a script that asks for one signature alone
 abbrev pub script_key : List ℕ → List ℕ
@@ -110,13 +116,83 @@ final_signature script None = []
 final_signature script (Some []) = []
 final_signature script (Some (signature ∷ items)) = (script_key script, signature) ∷ []
 
--- an input: its records first, then its signatures in ascending order of their keys, then that of its final witness
-abbrev pub take_input : Verifier → List Required → List ℕ → ℕ → List Signed → Input → PsbtInput → Taken
-take_input v required tx k given i input =
+-- its records first, then its signatures in ascending order of their keys, then that of its final witness
+abbrev pub take_key_input : Verifier → List Required → List ℕ → ℕ → List Signed → Input → PsbtInput → Taken
+take_key_input v required tx k given i input =
     if not (spent_fits i.output input.spent) then Err (reasons.Spent k)
     else if not (script_fits i.spent.script input.script) then Err (reasons.Script k)
     else if not (witness_fits i.spent.script input.witness) then Err (reasons.Witness k)
     else take_signatures v required tx k given (input.partial ++ final_signature i.spent.script input.witness)
+
+-- ---- an input that a wallet signs
+
+-- whether a signature is by a Taproot key, of a hash type that signs all (BIP 341): DEFAULT, which no byte says, or ALL
+abbrev pub is_taproot_signature : List ℕ → Bool
+is_taproot_signature item = length item == 64 || (length item == 65 && slice_index item 64 == 1)
+
+-- a signature, and a key
+abbrev pub shows_a_key : Verifier → List (List ℕ) → Bool
+shows_a_key v (signature ∷ key ∷ []) = is_key v key
+shows_a_key v _ = false
+
+-- an item alone is a signature by the key; more spend by a script, or have an annex
+abbrev pub may_be_taproot : List (List ℕ) → Bool
+may_be_taproot (item ∷ []) = is_taproot_signature item
+may_be_taproot _ = true
+
+-- whether items can be the witness of an input that spends an output of this script
+abbrev pub has_witness_form : Verifier → List ℕ → List (List ℕ) → Bool
+has_witness_form v script items =
+    is_filled items
+    && (if pays_to_key_hash script then shows_a_key v items
+    else if has_taproot_form script then may_be_taproot items
+    else true)
+
+-- a witness by a key's hash: its signature has the right shape
+abbrev pub has_strict_signature : List ℕ → List (List ℕ) → Bool
+has_strict_signature script items = not (pays_to_key_hash script) || is_strict (first_item items)
+
+-- and it verifies under the key beside it, which needn't be that of the hash
+abbrev pub verifies_beside : Verifier → List ℕ → List ℕ → List (List ℕ) → Bool
+verifies_beside v digest script items =
+    not (pays_to_key_hash script) || v.is_signature (second_item items) digest (first_item items)
+
+abbrev pub same_items : List (List ℕ) → List (List ℕ) → Bool
+same_items [] [] = true
+same_items (x ∷ xs) (y ∷ ys) = bytes_eq x y && same_items xs ys
+same_items _ _ = false
+
+-- the same witness may come again
+abbrev pub witness_taken_once : Bool → List Signed → Signed → Option Signed → Taken
+witness_taken_once verified given g None = taken_first verified given g
+witness_taken_once verified given g (Some earlier) =
+    if same_items earlier.witness g.witness then Ok given else refused_second verified g
+
+-- one more witness: of the form that spends this script, and as far as that is known one that verifies, and no other than an earlier one
+abbrev pub take_witness : Verifier → List ℕ → List ℕ → List Signed → Signed → Taken
+take_witness v digest script given g =
+    if not (has_witness_form v script g.witness) then Err (reasons.Witness g.input)
+    else if not (has_strict_signature script g.witness) then Err (reasons.Signature g.input)
+    else witness_taken_once (verifies_beside v digest script g.witness) given g (find (λ earlier. same_place earlier g) given)
+
+-- a line without a final witness gives nothing
+abbrev pub take_final : Verifier → List ℕ → ℕ → List Signed → Input → Wallet → Option (List (List ℕ)) → Taken
+take_final v tx k given i w None = Ok given
+take_final v tx k given i w (Some items) =
+    take_witness v i.digest w.script given (record { tx = tx; input = k; key = no_key; signature = []; witness = items })
+
+-- a wallet's own signatures and scripts are read over
+abbrev pub take_wallet_input : Verifier → List ℕ → ℕ → List Signed → Input → Wallet → PsbtInput → Taken
+take_wallet_input v tx k given i w input =
+    if not (spent_fits i.output input.spent) then Err (reasons.Spent k) else take_final v tx k given i w input.witness
+
+-- ---- inputs
+
+abbrev pub take_input : Verifier → List Required → List ℕ → ℕ → List Signed → Input → PsbtInput → Taken
+take_input v required tx k given i input = elim i.wallet [
+  | None ↦ take_key_input v required tx k given i input
+  | Some w ↦ take_wallet_input v tx k given i w input
+]
 
 -- the inputs from number k on
 abbrev pub take_inputs : Verifier → List Required → List ℕ → ℕ → List Signed → List Input → List PsbtInput → Taken

@@ -8,7 +8,7 @@ use Rattle.spec_terms.specs.Paths.{at}
 use Rattle.spec_bitcoin.specs.declared.label.Label.{Label}
 use Rattle.spec_bitcoin.specs.declared.label.Label.TheVariants as labels
 use Rattle.spec_bitcoin.specs.Spelling.{stripped}
-use Rattle.spec_compiler.specs.Keyed.Keys.{Keys, key_in}
+use Rattle.spec_compiler.specs.Keyed.Keys.{Keys}
 use Rattle.spec_compiler.specs.Keyed.Instance.{Instance}
 use Rattle.spec_compiler.specs.declared.unsigned.Spent.{Spent}
 use Rattle.spec_compiler.specs.declared.unsigned.Unsigned.{Unsigned}
@@ -18,8 +18,11 @@ use Rattle.spec_tool.specs.declared.which.Which.TheVariants as names
 use Rattle.spec_tool.specs.Keyed.Listed.{Listed, listed}
 use Rattle.spec_deal.specs.declared.finish.Verb.{Verb}
 use Rattle.spec_deal.specs.declared.finish.Verb.TheVariants as verbs
+use Rattle.spec_deal.specs.declared.transaction.Wallet.{Wallet}
+use Rattle.spec_deal.specs.Wallets.{input_wallet, signer_key}
 
--- a signature that is needed: of this input of the transaction, which spends this, by the key of the label
+-- a signature that is needed: of this input of the transaction, which spends this, by the key of the label, or by a wallet of whoever
+-- has the label
 pub record Slot : Type 0 where
   pub which : Which
   pub pending : Unsigned
@@ -27,6 +30,7 @@ pub record Slot : Type 0 where
   pub spent : Spent
   pub label : Label
   pub verb : Verb
+  pub wallet : Option Wallet
 
 -- ---- what a signature is for
 
@@ -52,28 +56,36 @@ is_endorsement verbs.Init = false
 
 -- ---- all signatures
 
--- of input k, which spends this, by the keys of these labels
-abbrev pub input_slots : Advert → Listed → ℕ → Spent → List Label → List Slot
-input_slots advert l k spent labels =
-    map
-    (λ label.
-    record { which = l.which; pending = l.pending; input = k; spent = spent; label = label; verb = verb_of advert l.which label })
-    labels
+-- of input k, which spends this, by the key of this label
+abbrev pub input_slot : Keys → Advert → Listed → ℕ → Spent → Label → Slot
+input_slot keys advert l k spent label = record {
+  which = l.which;
+  pending = l.pending;
+  input = k;
+  spent = spent;
+  label = label;
+  verb = verb_of advert l.which label;
+  wallet = input_wallet keys advert l.which k;
+}
+
+-- by the keys of these labels
+abbrev pub input_slots : Keys → Advert → Listed → ℕ → Spent → List Label → List Slot
+input_slots keys advert l k spent labels = map (input_slot keys advert l k spent) labels
 
 -- of the inputs from number k on
-abbrev pub slots_from : Advert → Listed → ℕ → List Spent → List (List Label) → List Slot
-slots_from advert l k [] signers = []
-slots_from advert l k (spent ∷ spends) [] = []
-slots_from advert l k (spent ∷ spends) (labels ∷ signers) =
-    input_slots advert l k spent labels ++ slots_from advert l (k + 1) spends signers
+abbrev pub slots_from : Keys → Advert → Listed → ℕ → List Spent → List (List Label) → List Slot
+slots_from keys advert l k [] signers = []
+slots_from keys advert l k (spent ∷ spends) [] = []
+slots_from keys advert l k (spent ∷ spends) (labels ∷ signers) =
+    input_slots keys advert l k spent labels ++ slots_from keys advert l (k + 1) spends signers
 
 -- of a transaction, input by input
-abbrev pub listed_slots : Advert → Listed → List Slot
-listed_slots advert l = slots_from advert l 0 l.pending.spends l.signers
+abbrev pub listed_slots : Keys → Advert → Listed → List Slot
+listed_slots keys advert l = slots_from keys advert l 0 l.pending.spends l.signers
 
 -- of all transactions of a contract, in order
 abbrev pub slots : (List ℕ → List ℕ) → Keys → Instance → List Slot
-slots hash keys s = flat_map (listed_slots s.advert) (listed hash keys s)
+slots hash keys s = flat_map (listed_slots keys s.advert) (listed hash keys s)
 
 -- ---- what is signed
 
@@ -82,7 +94,7 @@ abbrev pub slot_bytes : Slot → List ℕ
 slot_bytes slot = stripped (tx_of slot.pending)
 
 abbrev pub slot_key : (List ℕ → List ℕ) → Keys → Slot → List ℕ
-slot_key hash keys slot = key_in hash keys slot.label
+slot_key hash keys slot = signer_key hash keys slot.wallet slot.label
 
 -- what its signature signs
 abbrev pub slot_digest : (List ℕ → List ℕ) → Slot → List ℕ

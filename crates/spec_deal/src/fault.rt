@@ -11,11 +11,11 @@ use std::alloc::Global;
 pub enum DealReason {
     /// Its words are no line of a deal.
     Form,
-    /// The contract needs no such label, deposit or secret.
+    /// The contract needs no such label, deposit or secret, or has no such participant.
     Foreign,
-    /// The words behind it spell no key that is a point, no place or no hash.
+    /// The words behind it spell no key that is a point, no place, no hash, no network, or no script that may be paid.
     Value,
-    /// This line has given the same label, deposit or secret.
+    /// This line has given the same label, deposit or secret, a script of the same participant, or a network.
     Repeated(u32),
     /// This line has given the same key, place or hash to another.
     Shared(u32),
@@ -29,7 +29,8 @@ pub enum DealFault {
     Line(u32, DealReason),
     /// This is the first that no line gives.
     Missing(Needed),
-    /// This deposit would be made by one of the deal's own transactions.
+    /// This deposit would be made by one of the deal's own transactions, or this participant be paid at one of the
+    /// deal's own positions.
     Circular(Name),
 }
 
@@ -71,7 +72,7 @@ pub enum SignatureReason {
     Spent(u32),
     /// The script that it says this input has is another.
     Script(u32),
-    /// The final witness of this input is no signature with the script of one key.
+    /// The final witness of this input is no signature with the script of one key, or can't be that of its wallet's output.
     Witness(u32),
     /// A signature is by a key that this input doesn't need.
     Key(u32),
@@ -79,7 +80,7 @@ pub enum SignatureReason {
     Signature(u32),
     /// A signature of this input doesn't verify under its key.
     Invalid(u32),
-    /// An earlier signature of this input by the same key has other bytes.
+    /// An earlier signature of this input by the same key, or an earlier witness of it by the same wallet, has other bytes.
     Conflict(u32),
 }
 

@@ -24,6 +24,8 @@ pub enum FinishRefusal {
     Endorsement(Path, Name),
     /// The signature of this input, counted from 0, by the key of this label is missing.
     Signature(u32, Label),
+    /// The witness of this input by the wallet of this deposit is missing.
+    Wallet(u32, Name),
     /// The secret of this name is missing.
     Secret(Name),
     /// The predicate is false of the secrets' lengths.
@@ -35,6 +37,7 @@ impl Drop for FinishRefusal {
         match self {
             FinishRefusal::Endorsement(_, _)
             | FinishRefusal::Signature(_, _)
+            | FinishRefusal::Wallet(_, _)
             | FinishRefusal::Secret(_)
             | FinishRefusal::Predicate => {}
         }
@@ -53,6 +56,7 @@ impl FinishRefusal {
             FinishRefusal::Signature(input, label) => {
                 FinishRefusal::Signature(*input, label.copy(alloc)?)
             }
+            FinishRefusal::Wallet(input, deposit) => FinishRefusal::Wallet(*input, *deposit),
             FinishRefusal::Secret(name) => FinishRefusal::Secret(*name),
             FinishRefusal::Predicate => FinishRefusal::Predicate,
         })

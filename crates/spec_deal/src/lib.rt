@@ -16,4 +16,4 @@ pub use fault::{
 };
 pub use finish::{FinishRefusal, Verb};
 pub use signed::Signed;
-pub use transaction::{Input, Signer, Transaction};
+pub use transaction::{Input, Signer, Transaction, Wallet};

@@ -5,7 +5,7 @@ ghost use Rattle.std.specs.Prelude.{◌≡◌, IfOk};
 use crate::finish::Verb;
 use spec_bitcoin::{Label, Tx, TxOut};
 use spec_compiler::Spent;
-use spec_data::{Bytes, OutOfMemory, Seq};
+use spec_data::{Bytes, Name, OutOfMemory, Seq};
 use spec_tool::Which;
 use std::alloc::Global;
 
@@ -26,12 +26,29 @@ impl Drop for Signer {
     }
 }
 
-/// An input: what it spends, the output that this is, the digest that its signatures are of, and who signs it, in order.
+/// The wallet that brings the deposit of this name, whose output has this script.
+pub struct Wallet {
+    pub deposit: Name,
+    pub script: Bytes,
+}
+
+impl Drop for Wallet {
+    fn drop(self) {
+        let Wallet {
+            deposit: _,
+            script: _,
+        } = self;
+    }
+}
+
+/// An input: what it spends, the output that this is, the digest that its signatures are of, if it has one, who signs
+/// it, in order, and the wallet that does, if one does.
 pub struct Input {
     pub spent: Spent,
     pub output: TxOut,
     pub digest: [u8; 32],
     pub signers: Seq<Signer>,
+    pub wallet: Option<Wallet>,
 }
 
 impl Drop for Input {
@@ -41,6 +58,7 @@ impl Drop for Input {
             output: _,
             digest: _,
             signers: _,
+            wallet: _,
         } = self;
     }
 }
@@ -63,6 +81,18 @@ impl Drop for Transaction {
             bytes: _,
             inputs: _,
         } = self;
+    }
+}
+
+impl Wallet {
+    /// An equal one.
+    pub fn copy(&self, alloc: Global) -> Result<Wallet, OutOfMemory>
+        ensures { IfOk result (λ wallet. wallet ≡ self.now) }
+    {
+        Ok(Wallet {
+            deposit: self.deposit,
+            script: self.script.copy(alloc)?,
+        })
     }
 }
 

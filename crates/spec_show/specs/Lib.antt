@@ -1,0 +1,4 @@
+pub mod Made
+pub mod Objects
+pub mod ShownDeal
+pub mod ShowText

@@ -91,12 +91,12 @@ module _ (hash : List ℕ → List ℕ) (keys : Keys) (s : Instance) where
 
   -- so a signature of the transaction of a name is among those of it
   among_own : (which : Which) (l : Listed) → listed_at hash keys s which ≡ Some l → (slot : Slot) → Is_in slot (slots hash keys s)
-      → slot.which ≡ which → Is_in slot (listed_slots s.advert l)
+      → slot.which ≡ which → Is_in slot (listed_slots keys s.advert l)
   among_own which l named slot h e =
-      let r = from_flat (listed_slots s.advert) (listed hash keys s) slot h in
-      let name : r.0.which ≡ which = sym (of_listed s.advert r.0 slot r.2) ∙ e in
+      let r = from_flat (listed_slots keys s.advert) (listed hash keys s) slot h in
+      let name : r.0.which ≡ which = sym (of_listed keys s.advert r.0 slot r.2) ∙ e in
       let same : Some r.0 ≡ Some l = sym (there_by_name r.0 r.1) ∙ ap (listed_at hash keys s) name ∙ named in
-      subst (λ (x : Listed). Is_in slot (listed_slots s.advert x)) (some_same same) r.2
+      subst (λ (x : Listed). Is_in slot (listed_slots keys s.advert x)) (some_same same) r.2
 
   module _ (given : List Signed) (strings : List Shown) (which : Which) (l : Listed)
       (named : listed_at hash keys s which ≡ Some l) (complete : IsComplete hash keys s given strings l) where
@@ -109,7 +109,7 @@ module _ (hash : List ℕ → List ℕ) (keys : Keys) (s : Instance) where
 
     own_there : (slot : Slot) → Is_in slot (slots hash keys s) → slot.which ≡ which → has hash keys given slot ≡ true
     own_there slot h e =
-        all_in (has hash keys given) (listed_slots s.advert l) slot complete.signed (among_own which l named slot h e)
+        all_in (has hash keys given) (listed_slots keys s.advert l) slot complete.signed (among_own which l named slot h e)
 
     endorsed_there : (slot : Slot) → Is_in slot (slots hash keys s) → which ≡ names.Init → is_endorsement slot.verb ≡ true
         → has hash keys given slot ≡ true

@@ -17,16 +17,13 @@ use Rattle.spec_bitcoin.specs.declared.tx.OutPoint.{OutPoint}
 use Rattle.spec_bitcoin.specs.declared.tx.Tx.{Tx}
 use Rattle.spec_bitcoin.specs.declared.tx.TxIn.{TxIn}
 use Rattle.spec_bitcoin.specs.Live.{same_outpoint}
-use Rattle.spec_bitcoin.specs.Meaning.{script_meaning}
-use Rattle.spec_bitcoin.specs.Scripts.{ops_of}
-use Rattle.spec_bitcoin.specs.Spelling.{is_filled, stripped}
-use Rattle.spec_bitcoin.specs.Verdict.{has_repeat, script_of, items_of, is_long}
+use Rattle.spec_bitcoin.specs.Spelling.{stripped}
+use Rattle.spec_bitcoin.specs.Verdict.{has_repeat}
 use Rattle.spec_compiler.specs.declared.unsigned.Spent.{Spent}
 use Rattle.spec_compiler.specs.declared.unsigned.Unsigned.{Unsigned}
 use Rattle.spec_compiler.specs.Keyed.ByPath.{PathEnd, outpoint_at, position_at}
 use Rattle.spec_compiler.specs.Keyed.Instance.{Instance, branch_path}
 use Rattle.spec_compiler.specs.Keyed.Keys.{Keys}
-use Rattle.spec_compiler.specs.Keyed.Statements.{is_short}
 use Rattle.spec_compiler.specs.Keyed.Transactions.{Standing, deposit, initial_unsigned, input_of, outpoint_or_none, put_deposits, tx_of}
 use Rattle.spec_compiler.specs.Witness.{chosen_by}
 use Rattle.spec_run.specs.Firing.{witnessed}
@@ -44,20 +41,20 @@ use Rattle.spec_deal.specs.Setting.{deal_keys, deal_instance}
 use Rattle.spec_deal.specs.SignatureFile.{has_bytes}
 use Rattle.spec_deal.specs.Slots.{Slot, listed_slots}
 use Rattle.spec_deal.specs.Transactions.{inputs, transaction, transactions}
+use Rattle.spec_deal.specs.Wallets.{puts_at, wallet_of, input_wallet}
+use Rattle.spec_text.specs.Words.{◌>>=◌}
 use Rattle.theory_calculus.specs.Members.{Is_in}
 use Rattle.theory_calculus.proofs.Members.{filter_has, found, in_from_contains}
 use Rattle.theory_calculus.proofs.Names.{bytes-true, bytes_refl, in_named, looked_in, named_looked, persistent_deposit}
 use Rattle.theory_script.proofs.Keyed.Stands.{some_same}
 use Rattle.theory_script.proofs.Scripts.Choosing.{witness_chooses}
 use Rattle.theory_world.proofs.Same.{place_refl}
-use Rattle.theory_deal.specs.Finished.{accepts_one, AllOpen, FinishedIsPlanned}
+use Rattle.theory_deal.specs.Finished.{accepts_one, FinishedIsPlanned}
 use Rattle.theory_deal.proofs.ByName.{listed_in}
-use Rattle.theory_deal.proofs.OfKeys.{deal_of_keys}
 use Rattle.theory_deal.proofs.ReadBranches.{puts_needed}
 use Rattle.theory_deal.proofs.ReadSignatures.{signatures_are_shaped}
 use Rattle.theory_deal.proofs.Ledger.DifferentOutputs.{apart_at}
-use Rattle.theory_deal.proofs.Ledger.ShortItems.{witnesses_short}
-use Rattle.theory_deal.proofs.Ledger.Verdicts.{AllShort}
+use Rattle.theory_deal.proofs.Ledger.ShortItems.{keys_short}
 use Rattle.spec_chain.specs.declared.fault.ChainReason.{ChainReason}
 use Rattle.spec_chain.specs.declared.fault.ChainReason.TheVariants as reasons
 use Rattle.spec_chain.specs.declared.output.Held.TheVariants as helds
@@ -68,7 +65,7 @@ use Rattle.spec_chain.specs.ChainFile.{read_chain}
 use Rattle.spec_chain.specs.Following.{own_transaction, which_shown, which_of, happened}
 use Rattle.spec_chain.specs.Outputs.{has_place, is_there, without, deal_outputs, position_of}
 use Rattle.spec_chain.specs.Outstanding.{asked, known}
-use Rattle.spec_chain.specs.Refusals.{refusal, input_row, inputs_reason, lock_reason, takes_all, opens, witnesses_reason, branch_reason, own_reason}
+use Rattle.spec_chain.specs.Refusals.{refusal, input_row, inputs_reason, lock_reason, takes_all, witnesses_reason, branch_reason, own_reason}
 use Rattle.theory_chain.specs.Files.{AreLines}
 use Rattle.theory_chain.specs.Follows.{LeadsTo}
 use Rattle.theory_chain.specs.GoingOn.{WhatCanGoesOn}
@@ -76,12 +73,13 @@ use Rattle.theory_chain.specs.Prospects.{CanCome, CanExactly, CanOpens}
 use Rattle.theory_chain.proofs.ChainRuns.{chain_kept, placed}
 use Rattle.theory_chain.proofs.Courses.{followed_exactly}
 use Rattle.theory_chain.proofs.Exactly.{there_by_name}
+use Rattle.theory_chain.proofs.Fine.{AllShown, Filled, fine_by, fine_shown, filled_are, opened_fine}
 use Rattle.theory_chain.proofs.FileReads.{chains_are_spelled}
 use Rattle.theory_chain.proofs.Ledgers.{all_there}
 use Rattle.theory_chain.proofs.Needs.{listed_name, named_is}
 use Rattle.theory_chain.proofs.Stays.{known_fit}
 use Rattle.theory_chain.proofs.Deals.Outputs.{any_there, at_place, deposit_output, deposit_there}
-use Rattle.theory_chain.proofs.Deals.Positions.{path_named, position_made, compiled_at, same_outpoint as one_place}
+use Rattle.theory_chain.proofs.Deals.Positions.{branch_at_path, path_named, position_made, compiled_at, same_outpoint as one_place}
 use Rattle.theory_chain.proofs.Deals.Taken.{whole_deal}
 use Rattle.theory_chain.proofs.Deals.Transactions.{OfBranch, of_branch, named_path, in_listed, position_before}
 use Rattle.theory_chain.proofs.Deals.Whole.{Whole, from_map, in_map, same_bytes}
@@ -118,57 +116,17 @@ get_below (y ∷ xs) (suc i) x e = let l = get_below xs i x e in omega (arith, l
 all_accepted : (hash : List ℕ → List ℕ) (keys : Keys) (given : List Signed) (xs : List Slot)
     → list_all (accepts_one hash keys given (λ k. takes_all)) xs ≡ true
 all_accepted hash keys given [] = refl
-all_accepted hash keys given (x ∷ xs) = all_accepted hash keys given xs
-
--- the empty script is false on no item
-empty_false : (hash : List ℕ → List ℕ) (valid : List ℕ → List ℕ → Bool) → script_meaning hash valid [] [] ≡ false
-unfolding script_meaning ops_of
-empty_false hash valid = refl
-
-open_filled : (hash : List ℕ → List ℕ) (valid : List ℕ → List ℕ → Bool) (script : List ℕ) (witness : List (List ℕ))
-    → script_of witness ≡ script → script_meaning hash valid script (items_of witness) ≡ true → is_filled witness ≡ true
-open_filled hash valid script [] e h =
-    let f = subst (λ (x : List ℕ). script_meaning hash valid x [] ≡ true) (sym e) h in
-    let g = empty_false hash valid in
-    cc
-open_filled hash valid script (x ∷ items) e h = refl
-
-no_long : (items : List (List ℕ)) → list_all is_short items ≡ true → list_any is_long items ≡ false
-no_long [] h = refl
-no_long (x ∷ items) h =
-    let p = and_parts (is_short x) (list_all is_short items) h in
-    let one : is_long x ≡ false = grind (arith, nat_tests, p.0) in
-    both (is_long x) (list_any is_long items) one (no_long items p.1)
+all_accepted hash keys given (x ∷ xs) =
+    and_from (accepts_one hash keys given (λ k. takes_all) x) (list_all (accepts_one hash keys given (λ k. takes_all)) xs)
+    (either (is_some x.wallet)) (all_accepted hash keys given xs)
   where
-    both : (a b : Bool) → a ≡ false → b ≡ false → (a || b) ≡ false
-    both true b e f = cc
-    both false b e f = f
-
-witness_opens : (hash : List ℕ → List ℕ) (script : List ℕ) (witness : List (List ℕ)) → script_of witness ≡ script
-    → script_meaning hash takes_all script (items_of witness) ≡ true → list_all is_short (items_of witness) ≡ true
-    → opens hash script witness ≡ true
-witness_opens hash script witness e h short =
-    and_from (is_filled witness) _ (open_filled hash takes_all script witness e h)
-    (and_from (bytes_eq (script_of witness) script) _ (ap (λ (x : List ℕ). bytes_eq x script) e ∙ bytes_refl script)
-    (and_from (not (list_any is_long (items_of witness))) _ (ap not (no_long (items_of witness) short)) h))
+    either : (b : Bool) → (b || true) ≡ true
+    either true = refl
+    either false = refl
 
 -- ---- no reason
 
 module _ (hash : List ℕ → List ℕ) (keys : Keys) (s : Instance) where
-  witnesses_fine : (l : Listed) (k : ℕ) (xs : List Spent) (signers : List (List Label)) (ws : List (List (List ℕ)))
-      → AllOpen hash (λ j. takes_all) k xs ws → AllShort ws
-      → witnesses_reason hash k (inputs hash keys s.advert l xs signers) (witnessed (map input_of xs) ws) ≡ None
-  witnesses_fine l k [] signers ws o h = refl
-  witnesses_fine l k (x ∷ xs) signers [] o h = absurd o
-  witnesses_fine l k (x ∷ xs) [] (w ∷ ws) o h =
-      ap (λ (b : Bool). cond b (witnesses_reason hash (k + 1) (inputs hash keys s.advert l xs []) (witnessed (map input_of xs) ws)) (Some (reasons.Witness k)))
-      (witness_opens hash x.script w o.0 o.1 h.0)
-      ∙ witnesses_fine l (k + 1) xs [] ws o.2 h.1
-  witnesses_fine l k (x ∷ xs) (labels ∷ signers) (w ∷ ws) o h =
-      ap (λ (b : Bool). cond b (witnesses_reason hash (k + 1) (inputs hash keys s.advert l xs signers) (witnessed (map input_of xs) ws)) (Some (reasons.Witness k)))
-      (witness_opens hash x.script w o.0 o.1 h.0)
-      ∙ witnesses_fine l (k + 1) xs signers ws o.2 h.1
-
   -- what is spent is live, each once
   inputs_fine : (ts : List Transaction) (live : List Output) (k : ℕ) (is : List TxIn)
       → ((p : OutPoint) → Is_in p (map (λ (i : TxIn). i.prev) is) → has_place live p ≡ true) → has_repeat is ≡ false
@@ -270,7 +228,8 @@ module _ (hash : List ℕ → List ℕ) (keys : Keys) (s : Instance) (whole : Wh
   of_places path d o = ap (λ (u : Unsigned). places u.spends) o.is
 
   same_branches : (path other : List PathStep) (d e : Unsigned) (o : OfBranch hash keys s path d) (p : OfBranch hash keys s other e)
-      → tx_of d ≡ tx_of e → (d.spends ≡ e.spends) × (o.here.position ≡ p.here.position)
+      → tx_of d ≡ tx_of e
+      → (d.spends ≡ e.spends) × (o.here.position ≡ p.here.position) × (puts_of (core o.b) ≡ puts_of (core p.b))
   same_branches path other d e o p same =
       let lists = sym (of_places path d o) ∙ same_places d e same ∙ of_places other e p in
       let position = one_place hash keys s whole o.here.position p.here.position o.here p.here o.choice p.choice o.stands p.stands (heads lists) in
@@ -280,7 +239,18 @@ module _ (hash : List ℕ → List ℕ) (keys : Keys) (s : Instance) (whole : Wh
       (puts_needed hash keys s whole.checked other p.here p.i p.b p.ends) (tails lists) in (
         ap (λ (u : Unsigned). u.spends) o.is ∙ (λ i. (here i).output ∷ put_deposits hash keys s (puts i)) ∙ ap (λ (u : Unsigned). u.spends) (sym p.is),
         position,
+        puts,
       )
+
+  -- so wallets bring the same to both
+  same_wallets : (path other : List PathStep) (d e : Unsigned) (o : OfBranch hash keys s path d) (p : OfBranch hash keys s other e)
+      → puts_of (core o.b) ≡ puts_of (core p.b)
+      → (k : ℕ) → input_wallet keys s.advert (names.At path) k ≡ input_wallet keys s.advert (names.At other) k
+  same_wallets path other d e o p puts zero = refl
+  same_wallets path other d e o p puts (suc k) =
+      ap (λ (xs : List (List ℕ)). slice_get xs k >>= wallet_of keys)
+      (ap puts_at (branch_at_path hash keys s path o.here o.i o.b o.ends) ∙ puts
+      ∙ sym (ap puts_at (branch_at_path hash keys s other p.here p.i p.b p.ends)))
 
   initial_apart : (path : List PathStep) (d : Unsigned) (o : OfBranch hash keys s path d) → tx_of (initial_unsigned hash keys s) ≡ tx_of d → ⊥
   initial_apart path d o same =
@@ -297,11 +267,12 @@ module _ (hash : List ℕ → List ℕ) (keys : Keys) (s : Instance) (whole : Wh
   path_position path d o =
       ap position_of (sym (path_named hash keys s path o.here o.i o.b o.ends)) ∙ position_before o.here.position o.i
 
-  -- two of the deal's transactions that are the same spend the same, and are of one position
+  -- two of the deal's transactions that are the same spend the same, are of one position, and have the same wallets
   pub twins : (w u : Which) (l m : Listed) → listed_at hash keys s w ≡ Some l → listed_at hash keys s u ≡ Some m → tx_of l.pending ≡ tx_of m.pending
       → (l.pending.spends ≡ m.pending.spends) × HaveOnePosition w u
+      × ((k : ℕ) → input_wallet keys s.advert w k ≡ input_wallet keys s.advert u k)
   twins names.Init names.Init l m e f same =
-      (ap (λ (x : Listed). x.pending.spends) (some_same (sym e ∙ f)), tt)
+      (ap (λ (x : Listed). x.pending.spends) (some_same (sym e ∙ f)), tt, λ k. refl)
   twins names.Init (names.At other) l m e f same =
       let n = named_path hash keys s other m f in
       absurd (initial_apart other n.0 (of_branch hash keys s other n.0 n.1)
@@ -319,13 +290,14 @@ module _ (hash : List ℕ → List ℕ) (keys : Keys) (s : Instance) (whole : Wh
       (ap (λ (x : Listed). tx_of x.pending) (sym n.2) ∙ same ∙ ap (λ (x : Listed). tx_of x.pending) k.2) in (
         ap (λ (x : Listed). x.pending.spends) n.2 ∙ r.0 ∙ ap (λ (x : Listed). x.pending.spends) (sym k.2),
         path_position path n.0 o ∙ r.1 ∙ sym (path_position other k.0 p),
+        same_wallets path other n.0 k.0 o p r.2,
       )
 
   -- ---- the branch that a witness shows
 
   module _ (given : List Signed) (strings : List Shown) (l : Listed) where
     first_chosen : (path : List PathStep) (d : Unsigned) (o : OfBranch hash keys s path d) (xs : List Spent) (signers : List (List Label))
-        → AllOpen hash (λ j. takes_all) 0 xs (path_witnesses hash keys s given strings path l xs signers) → (xs ≡ [] → ⊥)
+        → AllShown hash keys s l 0 xs (path_witnesses hash keys s given strings path l xs signers) → (xs ≡ [] → ⊥)
         → chosen_by (choices_at s o.here.position)
         (first_witness (witnessed (map input_of xs) (path_witnesses hash keys s given strings path l xs signers)))
         ≡ o.i
@@ -347,8 +319,7 @@ module _ (as_planned : FinishedIsPlanned) (hash : List ℕ → List ℕ) (keys :
     (lie : (o : Output) (path : List PathStep) → Is_in o course.state.live → o.held ≡ helds.Position path → outpoint_at hash keys s path ≡ Some o.place)
     (given : List Signed) (strings : List Shown) (tip : ℕ) (which : Which) (l : Listed) (named : listed_at hash keys s which ≡ Some l)
     (asked_for : Is_in which (asked s course.state)) (can : CanCome hash keys s given strings course.state tip which l)
-    (opened : AllOpen hash (λ j. takes_all) 0 l.pending.spends (witnesses hash keys s given strings l l.which))
-    (short : AllShort (witnesses hash keys s given strings l l.which)) where
+    (opened : AllShown hash keys s l 0 l.pending.spends (witnesses hash keys s given strings l l.which)) where
   abbrev tx : Tx
   tx = finished hash keys s given strings l
 
@@ -384,6 +355,7 @@ module _ (as_planned : FinishedIsPlanned) (hash : List ℕ → List ℕ) (keys :
       }
 
   twin : (l.pending.spends ≡ first.other.pending.spends) × HaveOnePosition which first.other.which
+      × ((k : ℕ) → input_wallet keys s.advert which k ≡ input_wallet keys s.advert first.other.which k)
   twin =
       twins hash keys s whole which first.other.which l first.other named (there_by_name hash keys s first.other first.among) first.same
 
@@ -404,7 +376,7 @@ module _ (as_planned : FinishedIsPlanned) (hash : List ℕ → List ℕ) (keys :
           none_some (sym z ∙ ap (λ (x : Listed). x.pending.spends) n.2 ∙ ap (λ (d : Unsigned). d.spends) o.is) in
           let chosen = ap (λ (ws : List (List (List ℕ))). chosen_by (choices_at s o.here.position) (first_witness (witnessed (map input_of l.pending.spends) ws))) all
           ∙ first_chosen hash keys s whole given strings l path n.0 o l.pending.spends l.signers
-          (subst (AllOpen hash (λ j. takes_all) 0 l.pending.spends) all opened) some in
+          (subst (AllShown hash keys s l 0 l.pending.spends) all opened) some in
           ap (λ (q : List PathStep). names.At (branch_path q (chosen_by (choices_at s q) (first_witness tx.inputs))))
           (sym p ∙ path_position hash keys s whole path n.0 o)
           ∙ ap (λ (i : ℕ). names.At (branch_path o.here.position i)) chosen
@@ -435,8 +407,10 @@ module _ (as_planned : FinishedIsPlanned) (hash : List ℕ → List ℕ) (keys :
   opens_fine : witnesses_reason hash 0 (transaction hash keys s.advert first.other).inputs tx.inputs ≡ None
   opens_fine =
       let ws = witnesses hash keys s given strings l l.which in
-      ap (λ (xs : List Spent). witnesses_reason hash 0 (inputs hash keys s.advert first.other xs first.other.signers) tx.inputs) (sym twin.0)
-      ∙ witnesses_fine hash keys s first.other 0 l.pending.spends first.other.signers ws opened short
+      ap (λ (xs : List Spent). witnesses_reason hash 0 (inputs hash keys s.advert first.other 0 xs first.other.signers) tx.inputs) (sym twin.0)
+      ∙ fine_shown hash keys s first.other 0 l.pending.spends first.other.signers ws
+      (fine_by hash (λ j. takes_all) Filled (λ k. input_wallet keys s.advert l.which k) (λ k. input_wallet keys s.advert first.other.which k)
+      (λ k. ap (λ (w : Which). input_wallet keys s.advert w k) (listed_name hash keys s which l named) ∙ twin.2 k) 0 l.pending.spends ws opened)
 
   branch_fine : branch_reason ts tx (which_shown s tx first.other.which) ≡ None
   branch_fine =
@@ -491,7 +465,7 @@ leads_then hash s ts (c ∷ cs) ds course middle last h k =
 -- ---- the whole
 
 pub what_can_goes_on : CanExactly → CanOpens → FinishedIsPlanned → WhatCanGoesOn
-what_can_goes_on exactly opened as_planned v hash advert deal text longer file course tip given strings which l d followed below read fits named asked_for none adds clear =
+what_can_goes_on exactly opened as_planned v hash advert deal text longer file course tip given strings which l d followed below read fits named asked_for none filled adds clear =
     let keys = deal_keys deal in
     let s : Instance = deal_instance advert deal in
     let told = known course.state strings in
@@ -502,13 +476,16 @@ what_can_goes_on exactly opened as_planned v hash advert deal text longer file c
     let can = (exactly hash keys s given told course.state tip which l named).0 none in
     let short = (signatures_are_shaped v hash keys s file given read).short in
     let fit = known_fit hash keys s text course tip strings followed fits in
-    let open_all = opened hash keys s text course tip given strings which l (λ j. takes_all) whole.are_keys (deal_of_keys deal) whole.applied short fits
-    followed named none (all_accepted hash keys given (listed_slots s.advert l)) in
-    let items = witnesses_short hash keys s given told short fit l l.which in
+    let ws = witnesses hash keys s given told l l.which in
+    let open_all = (opened hash keys s text course tip given strings which l (λ j. takes_all) whole.are_keys whole.applied short fits
+    followed named none (all_accepted hash keys given (listed_slots keys s.advert l))).by_input in
+    let shown = opened_fine hash (λ j. takes_all) Filled (λ k. input_wallet keys s.advert l.which k) given (stripped (tx_of l.pending)) 0
+    l.pending.spends ws open_all (keys_short hash keys s given told short fit l l.which)
+    (filled_are hash (λ j. takes_all) (λ k. input_wallet keys s.advert l.which k) 0 ws filled) in
     let lie = placed hash keys s text course tip followed whole in
     let among = in_from_contains (asked s course.state) which asked_for in
-    let fine = isnt_bad as_planned hash keys s whole course kept lie given told tip which l named among can open_all items in
-    let name = which_is as_planned hash keys s whole course kept lie given told tip which l named among can open_all items in
+    let fine = isnt_bad as_planned hash keys s whole course kept lie given told tip which l named among can shown in
+    let name = which_is as_planned hash keys s whole course kept lie given told tip which l named among can shown in
     let leads = (followed_exactly hash keys s text course tip).0 followed in
     let lines = (chains_are_spelled text (read_chain text).confirmed tip).0
     (λ i. record { confirmed = (read_chain text).confirmed; tip = leads.1 i; fault = leads.0 i }) in

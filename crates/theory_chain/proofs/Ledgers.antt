@@ -11,28 +11,35 @@ use Rattle.spec_terms.specs.Paths.{contract_under}
 use Rattle.spec_terms.specs.Precondition.{Holding, persistent, volatile, names_of}
 use Rattle.spec_terms.specs.declared.path.PathStep.{PathStep}
 use Rattle.spec_bitcoin.specs.declared.tx.OutPoint.{OutPoint}
+use Rattle.spec_bitcoin.specs.Live.{Entry}
+use Rattle.spec_bitcoin.specs.Spelling.{stripped}
 use Rattle.spec_compiler.specs.declared.unsigned.Spent.{Spent}
 use Rattle.spec_compiler.specs.declared.unsigned.Unsigned.{Unsigned}
 use Rattle.spec_compiler.specs.Keyed.ByPath.{outpoint_at}
 use Rattle.spec_compiler.specs.Keyed.Instance.{Instance}
 use Rattle.spec_compiler.specs.Keyed.Keys.{Keys}
-use Rattle.spec_compiler.specs.Keyed.Transactions.{Standing, deposit, outpoint_or_none, put_deposits, holding_or_none, pays}
+use Rattle.spec_compiler.specs.Keyed.Statements.{AreKeyDeposits}
+use Rattle.spec_compiler.specs.Keyed.Transactions.{Standing, deposit, outpoint_or_none, put_deposits, holding_or_none, tx_of}
 use Rattle.spec_tool.specs.declared.which.Which.{Which}
 use Rattle.spec_tool.specs.declared.which.Which.TheVariants as names
 use Rattle.spec_tool.specs.Keyed.Listed.{Listed, listed_at}
-use Rattle.spec_deal.specs.Finished.{witnesses}
+use Rattle.spec_deal.specs.declared.transaction.Wallet.{Wallet}
+use Rattle.spec_deal.specs.Finished.{witnesses, finished}
 use Rattle.spec_deal.specs.Setting.{deal_keys, deal_instance}
+use Rattle.spec_deal.specs.Wallets.{spent_output}
 use Rattle.theory_calculus.specs.Members.{Is_in}
 use Rattle.theory_calculus.proofs.Members.{in_append, in_from_contains, all_in}
 use Rattle.theory_calculus.proofs.Names.{bytes-true}
 use Rattle.theory_script.proofs.Keyed.Stands.{some_same}
 use Rattle.theory_world.proofs.Same.{place_refl}
-use Rattle.theory_deal.proofs.OfKeys.{deal_of_keys}
+use Rattle.theory_deal.specs.Accepted.{spent_outputs, input_checks, wallets_of, AllLive, AreLive}
+use Rattle.theory_deal.proofs.OfKeys.{no_wallet}
 use Rattle.theory_deal.proofs.ReadSignatures.{signatures_are_shaped}
 use Rattle.theory_deal.proofs.Ledger.DifferentOutputs.{apart_at}
 use Rattle.theory_deal.proofs.Ledger.Funded.{funded_at}
-use Rattle.theory_deal.proofs.Ledger.ShortItems.{witnesses_short}
-use Rattle.theory_deal.proofs.Ledger.Verdicts.{accepts_open}
+use Rattle.theory_deal.proofs.Ledger.InputChecks.{all_lie, accepts_fine}
+use Rattle.theory_deal.proofs.Ledger.ShortItems.{keys_short, witnesses_short}
+use Rattle.theory_deal.proofs.Ledger.Verdicts.{IsWhole, accepts_open}
 use Rattle.spec_chain.specs.declared.output.Held.{Held}
 use Rattle.spec_chain.specs.declared.output.Held.TheVariants as helds
 use Rattle.spec_chain.specs.declared.output.Output.{Output}
@@ -40,14 +47,15 @@ use Rattle.spec_chain.specs.Chain.{Course}
 use Rattle.spec_chain.specs.Following.{State}
 use Rattle.spec_chain.specs.Outputs.{is_position, is_deposit, is_there, has_place, deposit_outputs, position_of}
 use Rattle.spec_chain.specs.Outstanding.{branches_from, branches_of, has_begun, asked, known, deposits_needed, puts_by}
-use Rattle.theory_chain.specs.Ledgers.{CanIsAccepted}
+use Rattle.theory_chain.specs.Ledgers.{HasLive, CanIsAccepted}
 use Rattle.theory_chain.specs.Prospects.{CanExactly, CanOpens}
 use Rattle.theory_chain.proofs.ChainRuns.{chain_kept, placed}
+use Rattle.theory_chain.proofs.Fine.{opened_fine, known_are, fine_judged}
 use Rattle.theory_chain.proofs.Deals.Outputs.{any_there, there_of, deposit_of}
 use Rattle.theory_chain.proofs.Deals.Positions.{path_named, branch_at_path}
 use Rattle.theory_chain.proofs.Deals.Taken.{whole_deal}
 use Rattle.theory_chain.proofs.Deals.Transactions.{OfBranch, of_branch, named_path, position_before}
-use Rattle.theory_chain.proofs.Deals.Whole.{from_map}
+use Rattle.theory_chain.proofs.Deals.Whole.{from_map, stands_at, from_stands}
 use Rattle.theory_chain.proofs.Runs.Kept.{Kept}
 use Rattle.theory_chain.proofs.Stays.{known_fit}
 
@@ -177,23 +185,53 @@ module _ (hash : List ℕ → List ℕ) (keys : Keys) (s : Instance) (course : C
           (needed_there (names.At path) funded (r.0)
           (subst (Is_in (r.0)) (sym (ap puts_by (branch_at_path hash keys s path of.here of.i of.b of.ends))) r.1))
 
+-- ---- ledgers
+
+-- what is live lies there as the plan has it, with the scripts of wallets
+pub all_live : (hash : List ℕ → List ℕ) (keys : Keys) (s : Instance) (state : State) (l : Listed) (live : List Entry)
+    → HasLive hash keys s state l live → ((x : Spent) → Is_in x l.pending.spends → has_place state.live x.outpoint ≡ true)
+    → AllLive hash live (wallets_of keys s l) l.pending.spends
+all_live hash keys s state l live has there k x e =
+    has k x e
+    ∙ ap (λ (b : Bool). cond b (Some (spent_output hash (wallets_of keys s l k) x)) None) (there x (from_stands l.pending.spends x k e))
+
+-- and where all deposits are of keys, as those have it
+pub live_by_key : (hash : List ℕ → List ℕ) (keys : Keys) → AreKeyDeposits keys → (s : Instance) (l : Listed) (live : List Entry)
+    → AllLive hash live (wallets_of keys s l) l.pending.spends → AreLive hash live l.pending.spends
+live_by_key hash keys of_keys s l live lies x h =
+    let n = stands_at l.pending.spends x (in_from_contains l.pending.spends x h) in
+    lies n.0 x n.1 ∙ ap (λ (o : Option Wallet). Some (spent_output hash o x)) (no_wallet keys of_keys s.advert l.which n.0)
+
 -- ---- the whole
 
 pub can_is_accepted : CanExactly → CanOpens → CanIsAccepted
 can_is_accepted exactly opens v hash advert deal text file course tip given strings which l oracle chain d followed read fits named h none accepted live top =
     let keys = deal_keys deal in
     let s : Instance = deal_instance advert deal in
+    let told = known course.state strings in
     let whole = whole_deal v hash advert deal d in
     let kept = chain_kept hash keys s text course tip followed whole in
-    let can = (exactly hash keys s given (known course.state strings) course.state tip which l named).0 none in
-    let ws = witnesses hash keys s given (known course.state strings) l l.which in
+    let can = (exactly hash keys s given told course.state tip which l named).0 none in
+    let ws = witnesses hash keys s given told l l.which in
+    let tx = finished hash keys s given told l in
     let short = (signatures_are_shaped v hash keys s file given read).short in
     let fit = known_fit hash keys s text course tip strings followed fits in
     let there = all_there hash keys s course kept (placed hash keys s text course tip followed whole) which l named
     (in_from_contains (asked s course.state) which h) can.funded in
-    accepts_open hash oracle chain l.pending ws
-    (record { funded = funded_at hash keys s d.checked which l named; apart = apart_at hash keys s d.checked whole.apart which l named })
-    (λ x i. live x i ∙ ap (λ (b : Bool). cond b (Some (pays hash x.script x.value)) None) (there x (in_from_contains l.pending.spends x i)))
-    d.hashes.size (subst (λ (n : ℕ). l.pending.lock ≤ n) (sym top) can.final)
-    (opens hash keys s text course tip given strings which l oracle whole.are_keys (deal_of_keys deal) whole.applied short fits followed named none accepted)
-    (witnesses_short hash keys s given (known course.state strings) short fit l l.which)
+    let lies = all_live hash keys s course.state l chain.live live there in
+    let plan : IsWhole l.pending =
+    record { funded = funded_at hash keys s d.checked which l named; apart = apart_at hash keys s d.checked whole.apart which l named } in
+    let reached : l.pending.lock ≤ chain.tip = subst (λ (n : ℕ). l.pending.lock ≤ n) (sym top) can.final in
+    let opened = opens hash keys s text course tip given strings which l oracle whole.are_keys whole.applied short fits followed named none accepted in
+    record {
+      by_oracle = λ of_keys.
+          accepts_open hash oracle chain l.pending ws plan (live_by_key hash keys of_keys s l chain.live lies) d.hashes.size reached
+          (opened.of_keys of_keys) (witnesses_short hash keys s given told short fit of_keys l l.which);
+      by_input_checks = λ takes taken.
+          accepts_fine hash (input_checks keys s l oracle takes) (wallets_of keys s l) chain l.pending ws plan lies reached
+          (fine_judged hash d.hashes.size oracle takes (wallets_of keys s l) chain.live tx 0 l.pending.spends ws
+          (all_lie hash chain.live (wallets_of keys s l) l.pending.spends lies)
+          (opened_fine hash oracle (λ k w. takes tx (spent_outputs chain.live tx) k ≡ true) (wallets_of keys s l) given
+          (stripped (tx_of l.pending)) 0 l.pending.spends ws opened.by_input (keys_short hash keys s given told short fit l l.which)
+          (known_are hash oracle (λ k w. takes tx (spent_outputs chain.live tx) k ≡ true) (wallets_of keys s l) (λ k v w e. taken k v e) 0 ws)));
+    }

@@ -19,3 +19,4 @@ pub mod OwnAccepted
 pub mod Revealed
 pub mod Anywhere
 pub mod Reasons
+pub mod Fine

@@ -86,28 +86,28 @@ from_not false e = cc
 
 -- ---- the slots of a transaction
 
-module _ (advert : Advert) (l : Listed) where
-  of_input : (k : ℕ) (spent : Spent) (labels : List Label) (slot : Slot) → Is_in slot (input_slots advert l k spent labels)
+module _ (keys : Keys) (advert : Advert) (l : Listed) where
+  of_input : (k : ℕ) (spent : Spent) (labels : List Label) (slot : Slot) → Is_in slot (input_slots keys advert l k spent labels)
       → slot.which ≡ l.which
   of_input k spent [] slot h = absurd h
   of_input k spent (label ∷ labels) slot (inl e) = ap (λ (x : Slot). x.which) e
   of_input k spent (label ∷ labels) slot (inr h) = of_input k spent labels slot h
 
-  of_inputs : (k : ℕ) (spends : List Spent) (signers : List (List Label)) (slot : Slot) → Is_in slot (slots_from advert l k spends signers)
+  of_inputs : (k : ℕ) (spends : List Spent) (signers : List (List Label)) (slot : Slot) → Is_in slot (slots_from keys advert l k spends signers)
       → slot.which ≡ l.which
   of_inputs k [] signers slot h = absurd h
   of_inputs k (spent ∷ spends) [] slot h = absurd h
   of_inputs k (spent ∷ spends) (labels ∷ signers) slot h =
       by (of_inputs (k + 1) spends signers slot)
-      (in_append slot (input_slots advert l k spent labels) (slots_from advert l (k + 1) spends signers) h)
+      (in_append slot (input_slots keys advert l k spent labels) (slots_from keys advert l (k + 1) spends signers) h)
     where
-      by : (Is_in slot (slots_from advert l (k + 1) spends signers) → slot.which ≡ l.which)
-          → Is_in slot (input_slots advert l k spent labels) ⊎ Is_in slot (slots_from advert l (k + 1) spends signers)
+      by : (Is_in slot (slots_from keys advert l (k + 1) spends signers) → slot.which ≡ l.which)
+          → Is_in slot (input_slots keys advert l k spent labels) ⊎ Is_in slot (slots_from keys advert l (k + 1) spends signers)
           → slot.which ≡ l.which
       by later (inl i) = of_input k spent labels slot i
       by later (inr i) = later i
 
-  pub of_listed : (slot : Slot) → Is_in slot (listed_slots advert l) → slot.which ≡ l.which
+  pub of_listed : (slot : Slot) → Is_in slot (listed_slots keys advert l) → slot.which ≡ l.which
   of_listed slot h = of_inputs 0 l.pending.spends l.signers slot h
 
 -- ---- transactions by name
@@ -212,12 +212,12 @@ module _ (hash : List ℕ → List ℕ) (keys : Keys) (s : Instance) (given : Li
   own (names.At path) slot e = ap (λ (w : Which). same_which w (names.At path)) e ∙ same_self (names.At path)
 
   signed : (which : Which) (l : Listed) → listed_at hash keys s which ≡ Some l → signature_requirements hash keys s given which ≡ []
-      → list_all (has hash keys given) (listed_slots s.advert l) ≡ true
+      → list_all (has hash keys given) (listed_slots keys s.advert l) ≡ true
   signed which l named none =
-      each_all (has hash keys given) (listed_slots s.advert l) (λ slot h.
+      each_all (has hash keys given) (listed_slots keys s.advert l) (λ slot h.
       there which none slot
-      (in_flat (listed_slots s.advert) (listed hash keys s) l slot (listed_in hash keys s which l named) h)
-      (own which slot (of_listed s.advert l slot h ∙ listed_name hash keys s which l named)))
+      (in_flat (listed_slots keys s.advert) (listed hash keys s) l slot (listed_in hash keys s which l named) h)
+      (own which slot (of_listed keys s.advert l slot h ∙ listed_name hash keys s which l named)))
 
 -- a predicate that isn't missing isn't false
 held : (strings : List Shown) (outstanding : List (List ℕ)) (b : Option term.Guarded) → outstanding ≡ []

@@ -157,6 +157,7 @@ never_comes hash keys s text longer more course later tip top given new strings 
     by_kind : (r : Requirement) → is_never r ≡ true → IsOutstanding hash keys s given (known course.state strings) course.state tip which l r → ⊥
     by_kind (requirements.Height height) n h = cc
     by_kind (requirements.Signature w i label verb) n h = cc
+    by_kind (requirements.Wallet w i deposit owner verb) n h = cc
     by_kind (requirements.Deposit name) n h = cc
     by_kind (requirements.Secret name party) n h = cc
     by_kind requirements.DepositGone n h = gone (h.0) h.1

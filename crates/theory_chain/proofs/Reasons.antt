@@ -17,6 +17,7 @@ use Rattle.spec_bitcoin.specs.Spelling.{is_filled, stripped}
 use Rattle.spec_bitcoin.specs.Verdict.{script_of, items_of, is_long}
 use Rattle.spec_compiler.specs.Keyed.Instance.{Instance}
 use Rattle.spec_deal.specs.declared.transaction.Input.{Input}
+use Rattle.spec_deal.specs.declared.transaction.Wallet.{Wallet}
 use Rattle.spec_deal.specs.declared.transaction.Transaction.{Transaction}
 use Rattle.spec_deal.specs.SignatureFile.{has_bytes}
 use Rattle.theory_calculus.proofs.Members.{in_filter, filter_has, in_from_contains, contains_from_in}
@@ -28,8 +29,8 @@ use Rattle.spec_chain.specs.declared.fault.ChainReason.TheVariants as reasons
 use Rattle.spec_chain.specs.declared.output.Output.{Output}
 use Rattle.spec_chain.specs.Following.{State, own_transaction, which_shown}
 use Rattle.spec_chain.specs.Outputs.{has_place, is_there, without, deal_outputs, position_outputs, transaction_named}
-use Rattle.spec_chain.specs.Refusals.{refusal, input_row, inputs_reason, lock_reason, takes_all, opens, witnesses_reason, branch_reason, own_reason}
-use Rattle.theory_chain.specs.Reasons.{SpendsAt, IsInputBad, IsInputForeign, IsShut, IsWitnessBad, IsReason, phase, number, side, IsBefore, IsFirstReason, BadExactly}
+use Rattle.spec_chain.specs.Refusals.{refusal, input_row, inputs_reason, lock_reason, takes_all, opens, opens_input, witnesses_reason, branch_reason, own_reason}
+use Rattle.theory_chain.specs.Reasons.{SpendsAt, IsInputBad, IsInputForeign, IsShut, IsShutBy, IsWitnessBad, IsReason, phase, number, side, IsBefore, IsFirstReason, BadExactly}
 use Rattle.theory_chain.proofs.Deals.Outputs.{any_there, there_of, at_place}
 use Rattle.theory_chain.proofs.Runs.Kept.{false_of}
 
@@ -381,11 +382,29 @@ shut_is hash script witness h = false_of (opens hash script witness) (λ e. by_k
         long n k = grind (arith, nat_tests, k)
     by_kind p (inr (inr (inr f))) = both_ways _ f p.3
 
+-- an input with this in the place of its wallet
+abbrev input_as : Input → Option Wallet → Input
+input_as i wallet = record { spent = i.spent; output = i.output; digest = i.digest; signers = i.signers; wallet = wallet }
+
+none_filled : (witness : List (List ℕ)) → is_filled witness ≡ false → witness ≡ []
+none_filled [] e = refl
+none_filled (x ∷ xs) e = cc
+
+shut_by : (hash : List ℕ → List ℕ) (i : Input) (wallet : Option Wallet) (witness : List (List ℕ))
+    → opens_input hash (input_as i wallet) witness ≡ false → IsShutBy hash wallet i.spent.script witness
+shut_by hash i None witness e = shut_of hash i.spent.script witness e
+shut_by hash i (Some w) witness e = none_filled witness e
+
+shut_so : (hash : List ℕ → List ℕ) (i : Input) (wallet : Option Wallet) (witness : List (List ℕ))
+    → IsShutBy hash wallet i.spent.script witness → opens_input hash (input_as i wallet) witness ≡ false
+shut_so hash i None witness h = shut_is hash i.spent.script witness h
+shut_so hash i (Some w) witness h = ap is_filled h
+
 module _ (hash : List ℕ → List ℕ) where
   abbrev AnyShut : ℕ → List Input → List TxIn → ChainReason → Type 0
   AnyShut n [] xs r = ⊥
   AnyShut n (i ∷ is) [] r = ⊥
-  AnyShut n (i ∷ is) (x ∷ xs) r = ((r ≡ reasons.Witness n) × (opens hash i.spent.script x.witness ≡ false)) ⊎ AnyShut (n + 1) is xs r
+  AnyShut n (i ∷ is) (x ∷ xs) r = ((r ≡ reasons.Witness n) × (opens_input hash i x.witness ≡ false)) ⊎ AnyShut (n + 1) is xs r
 
   shut_rank : (n : ℕ) (is : List Input) (xs : List TxIn) (r : ChainReason) → AnyShut n is xs r → (phase r ≡ 3) × (n ≤ number r)
   shut_rank n [] xs r h = absurd h
@@ -399,9 +418,9 @@ module _ (hash : List ℕ → List ℕ) where
   witnesses_none : (n : ℕ) (is : List Input) (xs : List TxIn) → witnesses_reason hash n is xs ≡ None → (r : ChainReason) → AnyShut n is xs r → ⊥
   witnesses_none n [] xs e r h = h
   witnesses_none n (i ∷ is) [] e r h = h
-  witnesses_none n (i ∷ is) (x ∷ xs) e r h = by_test (opens hash i.spent.script x.witness) refl e h (λ k. witnesses_none (n + 1) is xs k r)
+  witnesses_none n (i ∷ is) (x ∷ xs) e r h = by_test (opens_input hash i x.witness) refl e h (λ k. witnesses_none (n + 1) is xs k r)
     where
-      by_test : (b : Bool) → opens hash i.spent.script x.witness ≡ b → cond b (witnesses_reason hash (n + 1) is xs) (Some (reasons.Witness n)) ≡ None
+      by_test : (b : Bool) → opens_input hash i x.witness ≡ b → cond b (witnesses_reason hash (n + 1) is xs) (Some (reasons.Witness n)) ≡ None
           → AnyShut n (i ∷ is) (x ∷ xs) r → (witnesses_reason hash (n + 1) is xs ≡ None → AnyShut (n + 1) is xs r → ⊥) → ⊥
       by_test true f g (inl k) later = both_ways _ k.1 f
       by_test true f g (inr k) later = later g k
@@ -414,9 +433,9 @@ module _ (hash : List ℕ → List ℕ) where
   witnesses_some : (n : ℕ) (is : List Input) (xs : List TxIn) (r : ChainReason) → witnesses_reason hash n is xs ≡ Some r → FirstShut n is xs r
   witnesses_some n [] xs r e = cc
   witnesses_some n (i ∷ is) [] r e = cc
-  witnesses_some n (i ∷ is) (x ∷ xs) r e = by_test (opens hash i.spent.script x.witness) refl e (witnesses_some (n + 1) is xs r)
+  witnesses_some n (i ∷ is) (x ∷ xs) r e = by_test (opens_input hash i x.witness) refl e (witnesses_some (n + 1) is xs r)
     where
-      by_test : (b : Bool) → opens hash i.spent.script x.witness ≡ b → cond b (witnesses_reason hash (n + 1) is xs) (Some (reasons.Witness n)) ≡ Some r
+      by_test : (b : Bool) → opens_input hash i x.witness ≡ b → cond b (witnesses_reason hash (n + 1) is xs) (Some (reasons.Witness n)) ≡ Some r
           → (witnesses_reason hash (n + 1) is xs ≡ Some r → FirstShut (n + 1) is xs r) → FirstShut n (i ∷ is) (x ∷ xs) r
       by_test true f g later =
           let rest = later g in
@@ -443,7 +462,7 @@ module _ (hash : List ℕ → List ℕ) where
   shut_to n k (i ∷ is) [] h = absurd h
   shut_to n k (i ∷ is) (x ∷ xs) (inl h) =
       let e : k ≡ n = ap number h.0 in
-      (0, omega (arith, e), record { planned = i; input = x; is_planned = refl; is_input = refl; shut = shut_of hash i.spent.script x.witness h.1 })
+      (0, omega (arith, e), record { planned = i; input = x; is_planned = refl; is_input = refl; shut = shut_by hash i i.wallet x.witness h.1 })
   shut_to n k (i ∷ is) (x ∷ xs) (inr h) =
       let r = shut_to (n + 1) k is xs h in
       let e = r.1 in (
@@ -467,8 +486,8 @@ module _ (hash : List ℕ → List ℕ) where
       let b = h.is_input in
       inl (
         ap reasons.Witness z,
-        (λ t. opens hash (some_same a t).spent.script (some_same b t).witness)
-            ∙ shut_is hash h.planned.spent.script h.input.witness h.shut,
+        (λ t. opens_input hash (some_same a t) (some_same b t).witness)
+            ∙ shut_so hash h.planned h.planned.wallet h.input.witness h.shut,
       )
   shut_from n (suc j) (i ∷ is) (x ∷ xs) h =
       let z : (n + 1) + j ≡ n + suc j = omega arith in

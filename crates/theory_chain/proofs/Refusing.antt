@@ -22,16 +22,17 @@ use Rattle.spec_bitcoin.specs.declared.tx.TxIn.{TxIn}
 use Rattle.spec_bitcoin.specs.declared.tx.TxOut.{TxOut}
 use Rattle.spec_bitcoin.specs.declared.verdict.Refusal.{Refusal}
 use Rattle.spec_bitcoin.specs.declared.verdict.Refusal.TheVariants.{MissingInput, NotFinal}
+use Rattle.spec_bitcoin.specs.declared.verdict.Verdict.{Verdict}
 use Rattle.spec_bitcoin.specs.declared.verdict.Verdict.TheVariants as verdicts
 use Rattle.spec_bitcoin.specs.Digests.{txid}
 use Rattle.spec_bitcoin.specs.Live.{Chain, at_place as entry_at, same_outpoint}
-use Rattle.spec_bitcoin.specs.Verdict.{first_missing, heeds_lock, is_not_final, number_or_zero, whole_row, verdict_for}
+use Rattle.spec_bitcoin.specs.Verdict.{first_missing, heeds_lock, is_not_final, number_or_zero, spent_number, numbers_from, whole_row, verdict_for}
 use Rattle.spec_compiler.specs.declared.unsigned.Spent.{Spent}
 use Rattle.spec_compiler.specs.declared.unsigned.Unsigned.{Unsigned}
 use Rattle.spec_compiler.specs.Keyed.ByPath.{position_at}
 use Rattle.spec_compiler.specs.Keyed.Instance.{Instance, branch_path}
 use Rattle.spec_compiler.specs.Keyed.Keys.{Keys}
-use Rattle.spec_compiler.specs.Keyed.Transactions.{Standing, deposit, holding_or_none, initial_unsigned, input_of, outpoint_or_none, pays, tx_of}
+use Rattle.spec_compiler.specs.Keyed.Transactions.{Standing, deposit, holding_or_none, initial_unsigned, input_of, outpoint_or_none, tx_of}
 use Rattle.spec_run.specs.Firing.{witnessed, with_witnesses}
 use Rattle.spec_tool.specs.declared.which.Which.{Which}
 use Rattle.spec_tool.specs.declared.which.Which.TheVariants as names
@@ -39,13 +40,13 @@ use Rattle.spec_tool.specs.Keyed.Listed.{Listed, listed, listed_at}
 use Rattle.spec_deal.specs.Finished.{finished, witnesses}
 use Rattle.spec_deal.specs.Needed.{needed_deposits}
 use Rattle.spec_deal.specs.Setting.{deal_keys, deal_instance}
+use Rattle.spec_deal.specs.Wallets.{input_wallet, spent_output}
 use Rattle.theory_calculus.specs.Members.{Is_in}
 use Rattle.theory_calculus.proofs.Members.{in_right, in_append, contains_from_in, all_in}
 use Rattle.theory_calculus.proofs.Names.{bytes_refl, persistent_deposit, in_named, looked_in, named_looked}
 use Rattle.theory_script.proofs.Keyed.Stands.{some_same}
 use Rattle.theory_world.proofs.Same.{place_refl}
-use Rattle.theory_deal.specs.Accepted.{judged_inputs, judged_verdict, output_at, accepted_on}
-use Rattle.theory_deal.specs.Finished.{Oracle}
+use Rattle.theory_deal.specs.Accepted.{judged_inputs, judged_verdict, output_at, input_checks, inputs_by, verdict_of}
 use Rattle.theory_deal.proofs.ReadBranches.{puts_needed}
 use Rattle.theory_deal.proofs.Ledger.Funded.{funded_at}
 use Rattle.spec_chain.specs.declared.output.Held.{Held}
@@ -55,9 +56,9 @@ use Rattle.spec_chain.specs.declared.requirement.Requirement.{Requirement}
 use Rattle.spec_chain.specs.Chain.{Course}
 use Rattle.spec_chain.specs.Outputs.{is_position, is_deposit, has_place, deposit_outputs, held_by, branch_held, core_held, parts_held}
 use Rattle.spec_chain.specs.Outstanding.{branches_from, branches_at, branches_of, has_begun, asked, known, deposits_needed, puts_by, outstanding}
-use Rattle.theory_chain.specs.Ledgers.{HasLive, CanIsAccepted}
+use Rattle.theory_chain.specs.Ledgers.{HasLive, IsAcceptedBy, CanIsAccepted}
 use Rattle.theory_chain.specs.Prospects.{CanExactly}
-use Rattle.theory_chain.specs.Refused.{IsRefused, CannotIsRefused, NotAskedIsSpent, AcceptedExactly}
+use Rattle.theory_chain.specs.Refused.{IsRefused, IsRefusedBy, CannotIsRefused, NotAskedIsSpent, AcceptedExactly}
 use Rattle.theory_chain.proofs.ChainRuns.{chain_kept}
 use Rattle.theory_chain.proofs.Exactly.{there_by_name}
 use Rattle.theory_chain.proofs.Needs.{in_flat}
@@ -65,7 +66,7 @@ use Rattle.theory_chain.proofs.Deals.Outputs.{any_there, at_place, numbered_in, 
 use Rattle.theory_chain.proofs.Deals.Positions.{path_named, branch_at_path, position_made, compiled_at, same_outpoint as one_place}
 use Rattle.theory_chain.proofs.Deals.Taken.{whole_deal}
 use Rattle.theory_chain.proofs.Deals.Transactions.{IsHeld, IsPosition, OfBranch, of_branch, named_path}
-use Rattle.theory_chain.proofs.Deals.Whole.{Whole, in_map, same_txid}
+use Rattle.theory_chain.proofs.Deals.Whole.{Whole, in_map, same_txid, stands_at}
 use Rattle.theory_chain.proofs.Runs.Kept.{Kept, Came, first_place, false_of, deposit_apart}
 
 -- ---- lists
@@ -152,25 +153,29 @@ not_less m n h = grind (arith, nat_tests, h)
 less : (m n : ℕ) → nat_lt m n ≡ true → m < n
 less m n h = grind (arith, nat_tests, h)
 
-module _ (hash : List ℕ → List ℕ) (oracle : Oracle) (chain : Chain) (d : Unsigned) (ws : List (List (List ℕ))) where
+-- whatever the inputs are refused for
+module _ (inputs_refusal : Option Refusal) (chain : Chain) (d : Unsigned) (ws : List (List (List ℕ))) where
   abbrev tx : Tx
   tx = with_witnesses (tx_of d) ws
 
+  abbrev judged : Verdict
+  judged = verdict_for chain tx (or_else (first_reason (whole_row chain.tip chain.live tx)) inputs_refusal)
+
   -- a test on the whole transaction refuses it
-  row_refuses : (p : Bool × Refusal) → Is_in p (whole_row chain.tip chain.live tx) → p.0 ≡ true → IsRefused (judged_verdict hash oracle chain tx)
+  row_refuses : (p : Bool × Refusal) → Is_in p (whole_row chain.tip chain.live tx) → p.0 ≡ true → IsRefused judged
   row_refuses p h e =
       let r = some_reason (whole_row chain.tip chain.live tx) p h e in
-      (r.0, ap (λ (o : Option Refusal). verdict_for chain tx (or_else o (judged_inputs hash oracle chain.live 0 tx.inputs))) r.1)
+      (r.0, ap (λ (o : Option Refusal). verdict_for chain tx (or_else o inputs_refusal)) r.1)
 
   -- it spends what isn't there
-  missing_refuses : (x : Spent) → Is_in x d.spends → output_at chain.live x.outpoint ≡ None → IsRefused (judged_verdict hash oracle chain tx)
+  missing_refuses : (x : Spent) → Is_in x d.spends → output_at chain.live x.outpoint ≡ None → IsRefused judged
   missing_refuses x h e =
       row_refuses (is_some (first_missing chain.live tx.inputs), MissingInput (number_or_zero (first_missing chain.live tx.inputs)))
       (inr (inr (inr (inl refl))))
       (first_spent (λ (p : OutPoint). not (is_some (entry_at chain.live p))) 0 d.spends ws x h (no_entry (entry_at chain.live x.outpoint) e))
 
   -- its lock is above the tip
-  early_refuses : 0 < length d.spends → chain.tip < d.lock → IsRefused (judged_verdict hash oracle chain tx)
+  early_refuses : 0 < length d.spends → chain.tip < d.lock → IsRefused judged
   early_refuses some early =
       let locked : not (d.lock == 0) ≡ true = ap not (ne_eqb d.lock 0 (λ e. omega (arith, early, e))) in
       let low = is_less chain.tip d.lock early in
@@ -469,18 +474,29 @@ module _ (hash : List ℕ → List ℕ) (keys : Keys) (s : Instance) (whole : Wh
 
   -- ---- ledgers
 
-  gone_refuses : (l : Listed) → Gone l.pending → (oracle : Oracle) (chain : Chain) (ws : List (List (List ℕ))) → HasLive hash course.state l chain.live
-      → IsRefused (judged_verdict hash oracle chain (with_witnesses (tx_of l.pending) ws))
-  gone_refuses l g oracle chain ws live =
-      missing_refuses hash oracle chain l.pending ws g.input g.among
-      (live g.input (contains_from_in l.pending.spends g.input g.among)
-      ∙ ap (λ (b : Bool). cond b (Some (pays hash g.input.script g.input.value)) None) g.gone)
+  gone_refuses : (l : Listed) → Gone l.pending → (inputs_refusal : Option Refusal) (chain : Chain) (ws : List (List (List ℕ)))
+      → HasLive hash keys s course.state l chain.live → IsRefused (judged inputs_refusal chain l.pending ws)
+  gone_refuses l g inputs_refusal chain ws live =
+      let n = stands_at l.pending.spends g.input g.among in
+      missing_refuses inputs_refusal chain l.pending ws g.input g.among
+      (live n.0 g.input n.1
+      ∙ ap (λ (b : Bool). cond b (Some (spent_output hash (input_wallet keys s.advert l.which n.0) g.input)) None) g.gone)
 
 -- ---- the whole
 
+-- what is refused whatever its inputs are refused for is refused by each check
+by_each : (hash : List ℕ → List ℕ) (chain : Chain) (d : Unsigned) (ws : List (List (List ℕ)))
+    → ((inputs_refusal : Option Refusal) → IsRefused (judged inputs_refusal chain d ws))
+    → IsRefusedBy hash chain (with_witnesses (tx_of d) ws)
+by_each hash chain d ws refused = record {
+  by_oracle = λ oracle. refused (judged_inputs hash oracle chain.live 0 (with_witnesses (tx_of d) ws).inputs);
+  by_input_checks = λ input_check.
+      refused (inputs_by hash input_check chain.live (with_witnesses (tx_of d) ws) 0 (with_witnesses (tx_of d) ws).inputs);
+}
+
 pub cannot_is_refused : CanExactly → CannotIsRefused
-cannot_is_refused exactly v hash advert deal text course tip given strings which l oracle chain d followed named finishes cannot live top =
-    by_lock (nat_lt tip l.pending.lock) refl
+cannot_is_refused exactly v hash advert deal text course tip given strings which l chain d followed named finishes cannot live top =
+    by_each hash chain l.pending ws (λ inputs_refusal. by_lock inputs_refusal (nat_lt tip l.pending.lock) refl)
   where
     keys : Keys
     keys = deal_keys deal
@@ -491,24 +507,27 @@ cannot_is_refused exactly v hash advert deal text course tip given strings which
     ws : List (List (List ℕ))
     ws = witnesses hash (deal_keys deal) (deal_instance advert deal) given (known course.state strings) l l.which
 
-    by_funded : l.pending.lock ≤ tip → (b : Bool) → list_all (λ x. list_any (is_deposit x) course.state.live) (deposits_needed s which) ≡ b
-        → IsRefused (judged_verdict hash oracle chain (with_witnesses (tx_of l.pending) ws))
-    by_funded final true e =
+    by_funded : (inputs_refusal : Option Refusal) → l.pending.lock ≤ tip → (b : Bool)
+        → list_all (λ x. list_any (is_deposit x) course.state.live) (deposits_needed s which) ≡ b
+        → IsRefused (judged inputs_refusal chain l.pending ws)
+    by_funded inputs_refusal final true e =
         absurd (cannot
         ((exactly hash keys s given (known course.state strings) course.state tip which l named).1
         (record { finishes = finishes; final = final; funded = e })))
-    by_funded final false e =
+    by_funded inputs_refusal final false e =
         let whole = whole_deal v hash advert deal d in
         let kept = chain_kept hash keys s text course tip followed whole in
         let x = one_fails (λ y. list_any (is_deposit y) course.state.live) (deposits_needed s which) e in
-        gone_refuses hash keys s whole course kept l (unfunded_gone hash keys s whole course kept which l named x.0 x.1 x.2) oracle chain ws live
+        gone_refuses hash keys s whole course kept l (unfunded_gone hash keys s whole course kept which l named x.0 x.1 x.2) inputs_refusal chain
+        ws live
 
-    by_lock : (b : Bool) → nat_lt tip l.pending.lock ≡ b → IsRefused (judged_verdict hash oracle chain (with_witnesses (tx_of l.pending) ws))
-    by_lock true e =
-        early_refuses hash oracle chain l.pending ws (funded_at hash keys s d.checked which l named).some
+    by_lock : (inputs_refusal : Option Refusal) (b : Bool) → nat_lt tip l.pending.lock ≡ b → IsRefused (judged inputs_refusal chain l.pending ws)
+    by_lock inputs_refusal true e =
+        early_refuses inputs_refusal chain l.pending ws (funded_at hash keys s d.checked which l named).some
         (subst (λ (n : ℕ). n < l.pending.lock) (sym top) (less tip l.pending.lock e))
-    by_lock false e =
-        by_funded (not_less tip l.pending.lock e) (list_all (λ x. list_any (is_deposit x) course.state.live) (deposits_needed s which)) refl
+    by_lock inputs_refusal false e =
+        by_funded inputs_refusal (not_less tip l.pending.lock e)
+        (list_all (λ x. list_any (is_deposit x) course.state.live) (deposits_needed s which)) refl
 
 pub not_asked_is_spent : NotAskedIsSpent
 not_asked_is_spent v hash advert deal text course tip which l d followed named unasked =
@@ -521,27 +540,42 @@ not_asked_is_spent v hash advert deal text course tip which l d followed named u
       input = g.input;
       among = contains_from_in l.pending.spends g.input g.among;
       gone = g.gone;
-      refused = gone_refuses hash keys s whole course kept l g;
+      refused = λ chain ws live.
+          by_each hash chain l.pending ws (λ inputs_refusal. gone_refuses hash keys s whole course kept l g inputs_refusal chain ws live);
     }
 
-pub accepted_exactly : CanIsAccepted → CannotIsRefused → AcceptedExactly
-accepted_exactly accepted refused v hash advert deal text file course tip given strings which l oracle chain d followed read fits named asked_for finishes accepting live top = (
-  λ none. accepted v hash advert deal text file course tip given strings which l oracle chain d followed read fits named asked_for none accepting live top,
-  λ ok. by_lines (outstanding hash (deal_keys deal) (deal_instance advert deal) given (known course.state strings) course.state tip which) refl ok,
-)
+-- what is accepted isn't refused, so that no line stands below it
+none_stands : (lines : List Requirement) (numbers births : List ℕ) (verdict : Verdict) → ((lines ≡ [] → ⊥) → IsRefused verdict)
+    → verdict ≡ verdicts.Accepted numbers births → lines ≡ []
+none_stands [] numbers births verdict refused ok = refl
+none_stands (r ∷ rs) numbers births verdict refused ok =
+    let no = refused filled in
+    absurd (not_both (sym ok ∙ no.1))
   where
-    not_both : {a b : List ℕ} {r : Refusal} → verdicts.Accepted a b ≡ verdicts.Refused r → ⊥
+    not_both : {a b : List ℕ} {why : Refusal} → verdicts.Accepted a b ≡ verdicts.Refused why → ⊥
     not_both e = cc
 
-    filled : {X : Type 0} {x : X} {xs : List X} → x ∷ xs ≡ [] → ⊥
+    filled : r ∷ rs ≡ [] → ⊥
     filled e = cc
 
-    by_lines : (rs : List Requirement)
-        → outstanding hash (deal_keys deal) (deal_instance advert deal) given (known course.state strings) course.state tip which ≡ rs
-        → judged_verdict hash oracle chain (finished hash (deal_keys deal) (deal_instance advert deal) given (known course.state strings) l)
-        ≡ accepted_on chain (finished hash (deal_keys deal) (deal_instance advert deal) given (known course.state strings) l)
-        → rs ≡ []
-    by_lines [] e ok = refl
-    by_lines (r ∷ rs) e ok =
-        let no = refused v hash advert deal text course tip given strings which l oracle chain d followed named finishes (λ z. filled (sym e ∙ z)) live top in
-        absurd (not_both (sym ok ∙ no.1))
+pub accepted_exactly : CanIsAccepted → CannotIsRefused → AcceptedExactly
+accepted_exactly accepted refused v hash advert deal text file course tip given strings which l oracle chain d followed read fits named asked_for finishes accepting live top =
+    let keys = deal_keys deal in
+    let s : Instance = deal_instance advert deal in
+    let lines = outstanding hash keys s given (known course.state strings) course.state tip which in
+    let tx = finished hash keys s given (known course.state strings) l in
+    let can : lines ≡ [] → IsAcceptedBy hash keys s l oracle chain tx = λ none. accepted v hash advert deal text file course tip given strings which l oracle chain d followed read fits named asked_for none accepting live top in
+    let cannot : (lines ≡ [] → ⊥) → IsRefusedBy hash chain tx = λ some. refused v hash advert deal text course tip given strings which l chain d followed named finishes some live top in
+    record {
+      by_oracle = λ of_keys. (
+        λ none. (can none).by_oracle of_keys,
+        none_stands lines (map (spent_number chain.live) tx.inputs) (numbers_from chain.births tx.outputs) (judged_verdict hash oracle chain tx)
+            (λ some. (cannot some).by_oracle oracle),
+      );
+      by_input_checks = λ takes taken. (
+        λ none. (can none).by_input_checks takes taken,
+        none_stands lines (map (spent_number chain.live) tx.inputs) (numbers_from chain.births tx.outputs)
+            (verdict_of hash (input_checks keys s l oracle takes) chain tx)
+            (λ some. (cannot some).by_input_checks (input_checks keys s l oracle takes)),
+      );
+    }

@@ -2,6 +2,7 @@
 use Rattle.std.proofs.Common.{◌≡◌, ℕ, suc, ◌<◌, List, [], ◌∷◌, ◌++◌, length, map, Bool, true, false, Option, Some, None, refl, sym, ap, subst, ◌∙◌, cond, arith, inl, inr}
 use Rattle.std.specs.Prelude.{◌⊎◌, if◌then◌else◌, not, ◌&&◌, ◌==◌, nat_lt, filter, is_some}
 use Rattle.std.specs.List.{Contains, list_any}
+use Rattle.std.proofs.lemmas.Bool.{and_from, and_parts}
 use Rattle.std.proofs.lemmas.Bool.Decides.{nat_tests}
 use Rattle.spec_terms.specs.Term as term
 use Rattle.spec_compiler.specs.Keyed.Keys.{Keys}
@@ -14,17 +15,18 @@ use Rattle.spec_deal.specs.declared.finish.FinishRefusal.TheVariants as refusals
 use Rattle.spec_deal.specs.declared.signed.Signed.{Signed}
 use Rattle.spec_deal.specs.declared.transaction.Transaction.{Transaction}
 use Rattle.spec_deal.specs.Finished.{which_branch, predicate_holds, predicate_refusal}
-use Rattle.spec_deal.specs.Given.{has, missing}
+use Rattle.spec_deal.specs.Given.{has, missing, is_unverified}
 use Rattle.spec_deal.specs.SecretFile.{string_for}
-use Rattle.spec_deal.specs.Slots.{slots}
+use Rattle.spec_deal.specs.declared.transaction.Wallet.{Wallet}
+use Rattle.spec_deal.specs.Slots.{Slot, slots}
 use Rattle.theory_calculus.specs.Members.{Is_in}
 use Rattle.theory_calculus.proofs.Members.{in_left, in_right, in_append, in_filter, filter_has, in_from_contains, contains_from_in}
 use Rattle.spec_chain.specs.declared.requirement.Requirement.{Requirement}
 use Rattle.spec_chain.specs.declared.requirement.Requirement.TheVariants as requirements
 use Rattle.spec_chain.specs.Following.{State}
 use Rattle.spec_chain.specs.Outputs.{is_deposit}
-use Rattle.spec_chain.specs.Outstanding.{lock_of, is_needed_for, signature_requirement, signature_requirements, deposits_needed, deposits_outstanding, secrets_outstanding, secret_requirement, gone_requirements, is_false, predicate_requirements, outstanding}
-use Rattle.theory_chain.specs.Requirements.{IsGone, IsOutstanding, RequirementsExactly}
+use Rattle.spec_chain.specs.Outstanding.{lock_of, is_needed_for, signature_requirement, signature_requirements, unverified_for, deposits_needed, deposits_outstanding, secrets_outstanding, secret_requirement, gone_requirements, is_false, predicate_requirements, outstanding}
+use Rattle.theory_chain.specs.Requirements.{IsGone, IsOutstanding, RequirementsExactly, IsCountedOn, UnverifiedExactly}
 use Rattle.theory_chain.proofs.Needs.{named_is}
 
 -- ---- lists
@@ -68,13 +70,23 @@ module _ (hash : List ℕ → List ℕ) (keys : Keys) (s : Instance) (given : Li
       by_test true e (inr k) = absurd k
       by_test false e k = absurd k
 
+  abbrev line_with : Slot → Option Wallet → Requirement
+  line_with z wallet =
+      signature_requirement
+      (record { which = z.which; pending = z.pending; input = z.input; spent = z.spent; label = z.label; verb = z.verb; wallet = wallet })
+
+  slot_so : (slot : Slot) (wallet : Option Wallet) → Contains (slots hash keys s) slot → is_needed_for which slot ≡ true
+      → has hash keys given slot ≡ false → signature_requirement slot ≡ line_with slot wallet → Outstanding (line_with slot wallet)
+  slot_so slot None h n f e = (slot, h, n, f, e)
+  slot_so slot (Some w) h n f e = (slot, h, n, f, e)
+
   signature_so : (requirement : Requirement) → Is_in requirement (signature_requirements hash keys s given which) → Outstanding requirement
   signature_so requirement h =
       let r = from_map signature_requirement (filter (is_needed_for which) (missing hash keys s given)) requirement h in
       let n = in_filter (is_needed_for which) (missing hash keys s given) r.0 r.1 in
       let m = in_filter (λ x. not (has hash keys given x)) (slots hash keys s) r.0 n.0 in
       subst Outstanding (sym r.2)
-      (r.0, contains_from_in (slots hash keys s) r.0 m.0, n.1, from_not (has hash keys given r.0) m.1, refl)
+      (slot_so (r.0) (r.0.wallet) (contains_from_in (slots hash keys s) r.0 m.0) n.1 (from_not (has hash keys given r.0) m.1) refl)
 
   gone_so : (x : List ℕ) → Is_in x (deposits_outstanding s state which) → IsGone s state which x
   gone_so x h =
@@ -187,6 +199,13 @@ module _ (hash : List ℕ → List ℕ) (keys : Keys) (s : Instance) (given : Li
       (filter_has (is_needed_for which) (missing hash keys s given) w.0
       (filter_has (λ x. not (has hash keys given x)) (slots hash keys s) w.0 (in_from_contains (slots hash keys s) w.0 w.1) (ap not w.3))
       w.2))))
+  there (requirements.Wallet which' k deposit owner verb) w =
+      in_right (requirements.Wallet which' k deposit owner verb) heights _ (in_left (requirements.Wallet which' k deposit owner verb) signatures _
+      (subst (λ (x : Requirement). Is_in x signatures) w.4
+      (in_map signature_requirement (filter (is_needed_for which) (missing hash keys s given)) w.0
+      (filter_has (is_needed_for which) (missing hash keys s given) w.0
+      (filter_has (λ x. not (has hash keys given x)) (slots hash keys s) w.0 (in_from_contains (slots hash keys s) w.0 w.1) (ap not w.3))
+      w.2))))
   there (requirements.Deposit x) w =
       in_right (requirements.Deposit x) heights _ (in_right (requirements.Deposit x) signatures _ (in_left (requirements.Deposit x) deposits _
       (in_map requirements.Deposit (deposits_outstanding s state which) x (gone_there x w))))
@@ -242,3 +261,30 @@ requirements_exactly hash keys s given strings state tip which l requirement nam
       λ w. subst (λ (xs : List Requirement). Contains xs requirement) (sym same)
           (contains_from_in (all hash keys s given strings state tip which l) requirement (there hash keys s given strings state tip which l requirement w)),
     )
+
+-- ---- what it counts on
+
+wallet_there : (o : Option Wallet) → is_some o ≡ true → (w : Wallet) × (o ≡ Some w)
+wallet_there None e = cc
+wallet_there (Some w) e = (w, refl)
+
+pub unverified_exactly : UnverifiedExactly
+unverified_exactly hash keys s given which slot = (to, from)
+  where
+    is_counted : Slot → Bool
+    is_counted x = is_needed_for which x && is_unverified hash keys given x
+
+    to : Contains (unverified_for hash keys s given which) slot → IsCountedOn hash keys s given which slot
+    to h =
+        let r = in_filter is_counted (slots hash keys s) slot (in_from_contains (unverified_for hash keys s given which) slot h) in
+        let a = and_parts (is_needed_for which slot) (is_unverified hash keys given slot) r.1 in
+        let b = and_parts (is_some slot.wallet) (has hash keys given slot) a.1 in
+        let w = wallet_there slot.wallet b.0 in
+        record { among = contains_from_in (slots hash keys s) slot r.0; needed = a.0; wallet = w.0; by_wallet = w.1; there = b.1 }
+
+    from : IsCountedOn hash keys s given which slot → Contains (unverified_for hash keys s given which) slot
+    from c =
+        contains_from_in (unverified_for hash keys s given which) slot
+        (filter_has is_counted (slots hash keys s) slot (in_from_contains (slots hash keys s) slot c.among)
+        (and_from (is_needed_for which slot) (is_unverified hash keys given slot) c.needed
+        (and_from (is_some slot.wallet) (has hash keys given slot) (ap is_some c.by_wallet) c.there)))

@@ -1,5 +1,5 @@
 -- The lines below a transaction stand in their order, each once; and whom they name is waited for.
-use Rattle.std.proofs.Common.{◌≡◌, ℕ, ◌<◌, List, [], ◌∷◌, ◌++◌, map, Bool, true, false, Option, Some}
+use Rattle.std.proofs.Common.{◌≡◌, ℕ, ◌<◌, List, [], ◌∷◌, ◌++◌, map, Bool, true, false, Option, Some, None, zero, suc}
 use Rattle.std.proofs.Common.{refl, sym, ap, subst, ◌∙◌, inl, inr, cond, arith, append_assoc}
 use Rattle.std.specs.Prelude.{◌⊎◌, not, is_some, nat_lt, filter, if◌then◌else◌}
 use Rattle.std.specs.List.{Contains, list_any}
@@ -9,6 +9,10 @@ use Rattle.spec_terms.specs.Term as term
 use Rattle.spec_terms.specs.Core.{core, puts_of, reveals_of}
 use Rattle.spec_terms.specs.Faults.{IsWellFormed}
 use Rattle.spec_terms.specs.Precondition.{persistent, names_of}
+use Rattle.spec_bitcoin.specs.declared.label.Label.{Label}
+use Rattle.spec_bitcoin.specs.declared.label.Label.TheVariants as labels
+use Rattle.spec_compiler.specs.declared.unsigned.Spent.{Spent}
+use Rattle.spec_compiler.specs.declared.unsigned.Unsigned.{Unsigned}
 use Rattle.spec_compiler.specs.Keyed.Instance.{Instance, people}
 use Rattle.spec_compiler.specs.Keyed.Keys.{Keys}
 use Rattle.spec_run.specs.Firing.{revealed_by}
@@ -16,17 +20,21 @@ use Rattle.spec_tool.specs.declared.which.Which.{Which}
 use Rattle.spec_tool.specs.declared.which.Which.TheVariants as names
 use Rattle.spec_tool.specs.Keyed.Listed.{Listed, listed_at}
 use Rattle.spec_deal.specs.declared.entry.Shown.{Shown}
+use Rattle.spec_deal.specs.declared.finish.Verb.{Verb}
 use Rattle.spec_deal.specs.declared.signed.Signed.{Signed}
 use Rattle.spec_deal.specs.declared.transaction.Transaction.{Transaction}
+use Rattle.spec_deal.specs.declared.transaction.Wallet.{Wallet}
 use Rattle.spec_deal.specs.Finished.{label_party, which_branch}
 use Rattle.spec_deal.specs.Given.{has, missing}
 use Rattle.spec_deal.specs.SecretFile.{string_for}
 use Rattle.spec_deal.specs.Slots.{Slot, slots}
+use Rattle.spec_deal.specs.Wallets.{input_wallet}
 use Rattle.theory_calculus.specs.Members.{Is_in}
 use Rattle.theory_calculus.proofs.Members.{in_left, in_right, in_append, in_filter, filter_has, in_from_contains, contains_from_in}
 use Rattle.theory_calculus.proofs.Names.{bytes-true, bytes_refl, different_names, persistent_different}
 use Rattle.theory_psbt.proofs.KeysDiffer.{participants_differ}
 use Rattle.theory_world.proofs.Tests.{map_append}
+use Rattle.theory_deal.specs.Signing.{Signs, AsksExactly}
 use Rattle.theory_deal.specs.SigningOrder.{Precedes, IsAscending, IsSameSignature, SignaturesInOrder}
 use Rattle.theory_deal.proofs.ReadBranches.{puts_different, reveals_different}
 use Rattle.spec_chain.specs.declared.requirement.Requirement.{Requirement}
@@ -144,10 +152,21 @@ part_one false x = record { ascends = tt; among = λ a h. absurd h }
 abbrev kind : Requirement → ℕ
 kind (requirements.Height height) = 0
 kind (requirements.Signature which input label verb) = 1
+kind (requirements.Wallet which input deposit owner verb) = 1
 kind (requirements.Deposit name) = 2
 kind (requirements.Secret name party) = 3
 kind requirements.DepositGone = 4
 kind requirements.PredicateFalse = 5
+
+-- that of a signature, by a key or by a wallet
+signature_kind_of : (slot : Slot) → kind (signature_requirement slot) ≡ 1
+signature_kind_of slot = by_wallet slot.which slot.pending slot.input slot.spent slot.label slot.verb slot.wallet
+  where
+    by_wallet : (which : Which) (pending : Unsigned) (k : ℕ) (spent : Spent) (label : Label) (verb : Verb) (wallet : Option Wallet)
+        → kind (signature_requirement
+        (record { which = which; pending = pending; input = k; spent = spent; label = label; verb = verb; wallet = wallet })) ≡ 1
+    by_wallet which pending k spent label verb None = refl
+    by_wallet which pending k spent label verb (Some w) = refl
 
 abbrev AreOfKind : ℕ → List Requirement → Type 0
 AreOfKind k rs = (r : Requirement) → Is_in r rs → kind r ≡ k
@@ -192,6 +211,51 @@ map_apart f xs h = ascend_map (λ (x y : Requirement). x ≡ y → ⊥) f xs h
 gone_cond : (xs : List (List ℕ)) → (b : Bool) × (gone_requirements xs ≡ cond b (requirements.DepositGone ∷ []) [])
 gone_cond [] = (false, refl)
 gone_cond (x ∷ xs) = (true, refl)
+
+-- ---- signatures with one line
+
+ascend_within : {X : Type 0} (R S : X → X → Type 0) (xs : List X) → ((x y : X) → Is_in x xs → Is_in y xs → R x y → S x y)
+    → IsAscending R xs → IsAscending S xs
+ascend_within R S [] f h = tt
+ascend_within R S (x ∷ xs) f h =
+    (λ y i. f x y (inl refl) (inr i) (h.0 y i), ascend_within R S xs (λ a b i j. f a b (inr i) (inr j)) h.1)
+
+of_deposit : (label : Label) (party : List ℕ) → label ≡ labels.Deposit party → label ≡ labels.Deposit (label_party label)
+of_deposit label party e = e ∙ sym (ap (λ (x : Label). labels.Deposit (label_party x)) e)
+
+-- a wallet signs under the label of its owner's deposits
+label_of_wallet : (s : Instance) (keys : Keys) (which : Which) (k : ℕ) (label : Label) (verb : Verb) (w : Wallet) → Signs s which k label verb
+    → input_wallet keys s.advert which k ≡ Some w → label ≡ labels.Deposit (label_party label)
+label_of_wallet s keys names.Init k label verb w h e = of_deposit label _ h.key
+label_of_wallet s keys (names.At path) zero label verb w h e = cc
+label_of_wallet s keys (names.At path) (suc k) label verb w h e = of_deposit label _ h.2.key
+
+abbrev line_with : Slot → Option Wallet → Requirement
+line_with z wallet =
+    signature_requirement
+    (record { which = z.which; pending = z.pending; input = z.input; spent = z.spent; label = z.label; verb = z.verb; wallet = wallet })
+
+-- two signatures with one line are one
+same_signature : (hash : List ℕ → List ℕ) (keys : Keys) (s : Instance) → AsksExactly → (x y : Slot) → Is_in x (slots hash keys s)
+    → Is_in y (slots hash keys s) → signature_requirement x ≡ signature_requirement y → IsSameSignature x y
+same_signature hash keys s asked_for x y i j e = by_wallets x.wallet y.wallet refl refl e
+  where
+    label_is : (z : Slot) → Is_in z (slots hash keys s) → (w : Wallet) → z.wallet ≡ Some w → z.label ≡ labels.Deposit (label_party z.label)
+    label_is z h w f =
+        let a = (asked_for hash keys s z).0 (contains_from_in (slots hash keys s) z h) in
+        label_of_wallet s keys z.which z.input z.label z.verb w a.signs (sym a.brought ∙ f)
+
+    by_wallets : (o p : Option Wallet) → x.wallet ≡ o → y.wallet ≡ p → line_with x o ≡ line_with y p → IsSameSignature x y
+    by_wallets None None f g h = record { which = cc; input = cc; label = cc }
+    by_wallets None (Some v) f g h = cc
+    by_wallets (Some w) None f g h = cc
+    by_wallets (Some w) (Some v) f g h =
+        let party : label_party x.label ≡ label_party y.label = cc in
+        record {
+          which = cc;
+          input = cc;
+          label = label_is x i w f ∙ ap labels.Deposit party ∙ sym (label_is y j v g);
+        }
 
 -- ---- the lines of a transaction
 
@@ -253,13 +317,19 @@ module _ (hash : List ℕ → List ℕ) (keys : Keys) (s : Instance) (given : Li
 
   -- ---- each once
 
-  signed_apart : IsAscending (λ (x y : Slot). IsSameSignature x y → ⊥) (slots hash keys s) → AreApart signatures
-  signed_apart once =
-      map_apart signature_requirement (filter (is_needed_for which) (missing hash keys s given))
-      (ascend_then (λ (x y : Slot). IsSameSignature x y → ⊥) (λ x y. signature_requirement x ≡ signature_requirement y → ⊥)
-      (filter (is_needed_for which) (missing hash keys s given)) (λ x y f e. f (record { which = cc; input = cc; label = cc }))
+  signed_apart : AsksExactly → IsAscending (λ (x y : Slot). IsSameSignature x y → ⊥) (slots hash keys s) → AreApart signatures
+  signed_apart asked_for once =
+      let needed = filter (is_needed_for which) (missing hash keys s given) in
+      map_apart signature_requirement needed
+      (ascend_within (λ (x y : Slot). IsSameSignature x y → ⊥) (λ x y. signature_requirement x ≡ signature_requirement y → ⊥) needed
+      (λ x y i j f e. f (same_signature hash keys s asked_for x y (slot_among x i) (slot_among y j) e))
       (ascend_filter (λ (x y : Slot). IsSameSignature x y → ⊥) (is_needed_for which) (missing hash keys s given)
       (ascend_filter (λ (x y : Slot). IsSameSignature x y → ⊥) (λ slot. not (has hash keys given slot)) (slots hash keys s) once)))
+    where
+      slot_among : (x : Slot) → Is_in x (filter (is_needed_for which) (missing hash keys s given)) → Is_in x (slots hash keys s)
+      slot_among x i =
+          (in_filter (λ slot. not (has hash keys given slot)) (slots hash keys s) x
+          (in_filter (is_needed_for which) (missing hash keys s given) x i).0).0
 
   funded_apart : AreApart (deposits_needed s which) → AreApart deposits
   funded_apart once =
@@ -275,9 +345,9 @@ module _ (hash : List ℕ → List ℕ) (keys : Keys) (s : Instance) (given : Li
       (λ x y f e. f cc)
       (ascend_filter (λ (x y : List ℕ). x ≡ y → ⊥) (λ a. not (is_some (string_for strings a))) (revealed_by (which_branch s which)) once))
 
-  lines_apart : IsAscending (λ (x y : Slot). IsSameSignature x y → ⊥) (slots hash keys s) → AreApart (deposits_needed s which)
+  lines_apart : AsksExactly → IsAscending (λ (x y : Slot). IsSameSignature x y → ⊥) (slots hash keys s) → AreApart (deposits_needed s which)
       → AreApart (revealed_by (which_branch s which)) → AreApart all
-  lines_apart signed funded told =
+  lines_apart asked_for signed funded told =
       let false_one = is_false strings (secrets_outstanding s strings which) (which_branch s which) in
       let r = gone_cond (deposits_outstanding s state which) in
       let gone_kind : AreOfKind 4 gone = subst (AreOfKind 4) (sym r.1) (one_kind r.0 requirements.DepositGone) in
@@ -285,7 +355,7 @@ module _ (hash : List ℕ → List ℕ) (keys : Keys) (s : Instance) (given : Li
       let predicate_behind : AreBehind 4 predicate = λ x i. let e = one_kind false_one requirements.PredicateFalse x i in omega (arith, e) in
       let secret_kind = map_kind (secret_requirement s) 3 (secrets_outstanding s strings which) (λ x. refl) in
       let deposit_kind = map_kind requirements.Deposit 2 (deposits_outstanding s state which) (λ x. refl) in
-      let signature_kind = map_kind signature_requirement 1 (filter (is_needed_for which) (missing hash keys s given)) (λ x. refl) in
+      let signature_kind = map_kind signature_requirement 1 (filter (is_needed_for which) (missing hash keys s given)) signature_kind_of in
       let gone_behind = behind_append 3 4 gone predicate (omega arith) gone_kind predicate_behind in
       let secrets_behind = behind_append 2 3 secrets (gone ++ predicate) (omega arith) secret_kind gone_behind in
       let deposits_behind = behind_append 1 2 deposits (secrets ++ (gone ++ predicate)) (omega arith) deposit_kind secrets_behind in
@@ -293,7 +363,7 @@ module _ (hash : List ℕ → List ℕ) (keys : Keys) (s : Instance) (given : Li
       apart_append 0 heights (signatures ++ (deposits ++ (secrets ++ (gone ++ predicate))))
       (one_kind (nat_lt tip l.pending.lock) (requirements.Height l.pending.lock)) signatures_behind
       (one_apart (nat_lt tip l.pending.lock) (requirements.Height l.pending.lock))
-      (apart_append 1 signatures (deposits ++ (secrets ++ (gone ++ predicate))) signature_kind deposits_behind (signed_apart signed)
+      (apart_append 1 signatures (deposits ++ (secrets ++ (gone ++ predicate))) signature_kind deposits_behind (signed_apart asked_for signed)
       (apart_append 2 deposits (secrets ++ (gone ++ predicate)) deposit_kind secrets_behind (funded_apart funded)
       (apart_append 3 secrets (gone ++ predicate) secret_kind gone_behind (told_apart told)
       (apart_append 4 gone predicate gone_kind predicate_behind gone_apart (one_apart false_one requirements.PredicateFalse)))))
@@ -319,12 +389,12 @@ secrets_apart hash keys s (names.At path) l well named =
     subst (λ (o : Option term.Guarded). AreApart (revealed_by o)) (sym (branch_at_path hash keys s path of.here of.i of.b of.ends))
     (names_apart (reveals_of (core of.b)) (reveals_different hash keys s well path of.here of.i of.b of.ends))
 
-pub requirements_in_order : SignaturesInOrder → RequirementsInOrder
-requirements_in_order ordered hash keys s given strings state tip which l well named =
+pub requirements_in_order : AsksExactly → SignaturesInOrder → RequirementsInOrder
+requirements_in_order asked_for ordered hash keys s given strings state tip which l well named =
     let same = sym (same_lines hash keys s given strings state tip which l named) in (
       subst (IsAscending (Precedes (may_stand hash keys s which l))) same (lines_part hash keys s given strings state tip which l).ascends,
       subst AreApart same
-          (lines_apart hash keys s given strings state tip which l (ordered hash keys s).once (deposits_apart hash keys s which l well named)
+          (lines_apart hash keys s given strings state tip which l asked_for (ordered hash keys s).once (deposits_apart hash keys s which l well named)
           (secrets_apart hash keys s which l well named)),
     )
 
@@ -333,6 +403,7 @@ requirements_in_order ordered hash keys s given strings state tip which l well n
 names_of_test : (party : List ℕ) (r : Requirement) → is_of party r ≡ true → Names r party
 names_of_test party (requirements.Height height) e = cc
 names_of_test party (requirements.Signature which input label verb) e = bytes-true (label_party label) party e
+names_of_test party (requirements.Wallet which input deposit owner verb) e = bytes-true owner party e
 names_of_test party (requirements.Deposit name) e = cc
 names_of_test party (requirements.Secret name holder) e = bytes-true holder party e
 names_of_test party requirements.DepositGone e = cc
@@ -341,6 +412,7 @@ names_of_test party requirements.PredicateFalse e = cc
 test_of_names : (party : List ℕ) (r : Requirement) → Names r party → is_of party r ≡ true
 test_of_names party (requirements.Height height) n = absurd n
 test_of_names party (requirements.Signature which input label verb) n = ap (λ (x : List ℕ). bytes_eq x party) n ∙ bytes_refl party
+test_of_names party (requirements.Wallet which input deposit owner verb) n = ap (λ (x : List ℕ). bytes_eq x party) n ∙ bytes_refl party
 test_of_names party (requirements.Deposit name) n = absurd n
 test_of_names party (requirements.Secret name holder) n = ap (λ (x : List ℕ). bytes_eq x party) n ∙ bytes_refl party
 test_of_names party requirements.DepositGone n = absurd n
@@ -368,6 +440,7 @@ test_of_awaits party lines a =
     by_kind : (r : Requirement) → Is_in r lines → is_never r ≡ false
     by_kind (requirements.Height height) i = refl
     by_kind (requirements.Signature which input label verb) i = refl
+    by_kind (requirements.Wallet which input deposit owner verb) i = refl
     by_kind (requirements.Deposit name) i = refl
     by_kind (requirements.Secret name holder) i = refl
     by_kind requirements.DepositGone i = absurd (a.funded (contains_from_in lines requirements.DepositGone i))

@@ -1,11 +1,12 @@
 -- What is claimed of chains that go on: what can come is the next transaction of a longer chain, by the name that it was asked under.
-use Rattle.std.specs.Prelude.{◌≡◌, ℕ, ◌+◌, ◌<◌, ◌≤◌, List, [], ◌∷◌, ◌++◌, length, true, Some, None, Ok, codes}
+use Rattle.std.specs.Prelude.{◌≡◌, ℕ, ◌+◌, ◌<◌, ◌≤◌, List, [], ◌∷◌, ◌++◌, length, true, Option, Some, None, Ok, codes}
 use Rattle.std.specs.Fmt.{decimal}
 use Rattle.std.specs.List.{Contains}
 use Rattle.spec_data.specs.Messages.{collision}
 use Rattle.spec_data.specs.Ranges.{last_height}
 use Rattle.spec_terms.specs.Advert.{Advert}
 use Rattle.spec_bitcoin.specs.declared.tx.Tx.{Tx}
+use Rattle.spec_bitcoin.specs.Spelling.{is_filled}
 use Rattle.spec_compiler.specs.Keyed.Keys.{Keys}
 use Rattle.spec_compiler.specs.Keyed.Instance.{Instance}
 use Rattle.spec_text.specs.Lines.{lines_of, words_of}
@@ -14,10 +15,12 @@ use Rattle.spec_tool.specs.Keyed.Listed.{Listed, listed_at}
 use Rattle.spec_deal.specs.declared.deal.Deal.{Deal}
 use Rattle.spec_deal.specs.declared.entry.Shown.{Shown}
 use Rattle.spec_deal.specs.declared.signed.Signed.{Signed}
-use Rattle.spec_deal.specs.Finished.{finished}
+use Rattle.spec_deal.specs.declared.transaction.Wallet.{Wallet}
+use Rattle.spec_deal.specs.Finished.{witnesses, finished}
 use Rattle.spec_deal.specs.Setting.{deal_keys, deal_instance}
 use Rattle.spec_deal.specs.SignatureFile.{read_signatures}
 use Rattle.spec_deal.specs.Verifier.{Verifier}
+use Rattle.theory_deal.specs.Accepted.{wallets_of}
 use Rattle.theory_deal.specs.Finished.{do_fit}
 use Rattle.spec_chain.specs.declared.happened.Happened.{Happened}
 use Rattle.spec_chain.specs.Chain.{Course, stands, transaction_strings, follow_chain}
@@ -45,7 +48,13 @@ pub record ComesNext (hash : List ℕ → List ℕ) (keys : Keys) (s : Instance)
   pub name : happened.which ≡ Some which
   pub height : happened.height ≡ tip + 1
 
--- what can come at a tip below the last height comes next, as it is finished, where its strings don't collide with those before
+-- of the witnesses from number k on each of an input that a wallet signs has an item
+abbrev pub AreFilled : (ℕ → Option Wallet) → ℕ → List (List (List ℕ)) → Type 0
+AreFilled wallet k [] = Unit {0}
+AreFilled wallet k (w ∷ ws) = ((v : Wallet) → wallet k ≡ Some v → is_filled w ≡ true) × AreFilled wallet (k + 1) ws
+
+-- what can come at a tip below the last height comes next, as it is finished, where its strings don't collide with those before; each witness
+-- by a wallet has an item, as every wallet's has
 abbrev pub WhatCanGoesOn : Type 0
 WhatCanGoesOn =
     (v : Verifier) (hash : List ℕ → List ℕ) (advert : Advert) (deal : Deal) (text longer file : List ℕ) (course : Course) (tip : ℕ)
@@ -57,6 +66,8 @@ WhatCanGoesOn =
     → listed_at hash (deal_keys deal) (deal_instance advert deal) which ≡ Some l
     → Contains (asked (deal_instance advert deal) course.state) which
     → outstanding hash (deal_keys deal) (deal_instance advert deal) given (known course.state strings) course.state tip which ≡ []
+    → AreFilled (wallets_of (deal_keys deal) (deal_instance advert deal) l) 0
+    (witnesses hash (deal_keys deal) (deal_instance advert deal) given (known course.state strings) l l.which)
     → AddsOne text longer tip (finished hash (deal_keys deal) (deal_instance advert deal) given (known course.state strings) l)
     → collision hash course.messages
     (transaction_strings hash (finished hash (deal_keys deal) (deal_instance advert deal) given (known course.state strings) l))

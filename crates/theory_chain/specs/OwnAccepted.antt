@@ -10,7 +10,6 @@ use Rattle.spec_deal.specs.declared.deal.Deal.{Deal}
 use Rattle.spec_deal.specs.Setting.{deal_keys, deal_instance}
 use Rattle.spec_deal.specs.Transactions.{transactions}
 use Rattle.spec_deal.specs.Verifier.{Verifier}
-use Rattle.theory_deal.specs.Accepted.{judged_verdict, accepted_on}
 use Rattle.spec_chain.specs.declared.reading.Confirmed.{Confirmed}
 use Rattle.spec_chain.specs.Chain.{Course, stands, follow_chain, opening_course}
 use Rattle.spec_chain.specs.ChainFile.{read_chain}
@@ -18,7 +17,7 @@ use Rattle.spec_chain.specs.Following.{which_of}
 use Rattle.spec_chain.specs.Refusals.{takes_all}
 use Rattle.theory_chain.specs.Deals.{IsDeal}
 use Rattle.theory_chain.specs.Follows.{LeadsTo}
-use Rattle.theory_chain.specs.Ledgers.{HasLive}
+use Rattle.theory_chain.specs.Ledgers.{HasLive, IsAcceptedBy}
 
 -- the transaction stands in the file behind others, which lead to this course
 pub record StandsBehind (hash : List ℕ → List ℕ) (keys : Keys) (s : Instance) (text : List ℕ) (course : Course) (c : Confirmed) : Type 0 where
@@ -37,5 +36,5 @@ OwnIsAccepted =
     → StandsBehind hash (deal_keys deal) (deal_instance advert deal) text course c
     → which_of (deal_instance advert deal) (transactions hash (deal_keys deal) (deal_instance advert deal)) c.tx ≡ Some which
     → listed_at hash (deal_keys deal) (deal_instance advert deal) which ≡ Some l
-    → HasLive hash course.state l ledger.live → ledger.tip + 1 ≡ c.height
-    → judged_verdict hash (λ k. takes_all) ledger c.tx ≡ accepted_on ledger c.tx
+    → HasLive hash (deal_keys deal) (deal_instance advert deal) course.state l ledger.live → ledger.tip + 1 ≡ c.height
+    → IsAcceptedBy hash (deal_keys deal) (deal_instance advert deal) l (λ k. takes_all) ledger c.tx

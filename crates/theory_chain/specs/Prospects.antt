@@ -15,7 +15,7 @@ use Rattle.spec_deal.specs.Given.{has}
 use Rattle.spec_deal.specs.SecretFile.{string_for}
 use Rattle.spec_deal.specs.Slots.{Slot, slots}
 use Rattle.spec_run.specs.Firing.{revealed_by}
-use Rattle.theory_deal.specs.Finished.{Oracle, accepts, IsApplied, are_short, do_fit, AllOpen}
+use Rattle.theory_deal.specs.Finished.{Oracle, accepts, IsApplied, are_short, do_fit, AllOpen, AllInputsOpen}
 use Rattle.spec_chain.specs.Chain.{Course, stands, follow_chain}
 use Rattle.spec_chain.specs.Following.{State}
 use Rattle.spec_chain.specs.Outputs.{is_deposit}
@@ -64,16 +64,23 @@ SuppliedComes =
     → (outstanding hash keys s given strings state tip which ≡ [])
     ⊎ (outstanding hash keys s given strings state tip which ≡ requirements.PredicateFalse ∷ [])
 
--- and, where all deposits are of keys, its witnesses open what it spends, for every oracle that accepts the given signatures
+-- its witnesses open what keys of the deal sign, and are those that were handed in for what wallets do
+pub record IsOpened (hash : List ℕ → List ℕ) (keys : Keys) (s : Instance) (given : List Signed) (oracle : Oracle) (l : Listed)
+    (ws : List (List (List ℕ))) : Type 0 where
+  pub by_input : AllInputsOpen hash keys s given oracle l ws
+  -- so where all deposits are of keys they open all that it spends
+  pub of_keys : AreKeyDeposits keys → AllOpen hash oracle 0 l.pending.spends ws
+
+-- and this for every oracle that accepts the given signatures
 abbrev pub CanOpens : Type 0
 CanOpens =
     (hash : List ℕ → List ℕ) (keys : Keys) (s : Instance) (text : List ℕ) (course : Course) (tip : ℕ) (given : List Signed)
     (strings : List Shown) (which : Which) (l : Listed) (oracle : Oracle)
-    → AreKeys hash keys → AreKeyDeposits keys → IsApplied s → are_short given ≡ true → do_fit hash s strings ≡ true
+    → AreKeys hash keys → IsApplied s → are_short given ≡ true → do_fit hash s strings ≡ true
     → follow_chain hash keys s text ≡ stands course tip → listed_at hash keys s which ≡ Some l
     → outstanding hash keys s given (known course.state strings) course.state tip which ≡ []
     → accepts hash keys s given oracle l ≡ true
-    → AllOpen hash oracle 0 l.pending.spends (witnesses hash keys s given (known course.state strings) l l.which)
+    → IsOpened hash keys s given oracle l (witnesses hash keys s given (known course.state strings) l l.which)
 
 -- where a deposit is gone, its transaction can't come after any further lines, whatever is signed and known
 abbrev pub GoneNeverComes : Type 0

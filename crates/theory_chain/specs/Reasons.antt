@@ -1,5 +1,5 @@
 -- What is claimed of why a transaction is bad where it stands: each reason in words of its own, and that the first that holds is given.
-use Rattle.std.specs.Prelude.{◌≡◌, ℕ, ◌<◌, ◌≤◌, List, [], true, false, None, Some, slice_get, length, ◌⊎◌, ◌↔◌}
+use Rattle.std.specs.Prelude.{◌≡◌, ℕ, ◌<◌, ◌≤◌, List, [], true, false, Option, None, Some, slice_get, length, ◌⊎◌, ◌↔◌}
 use Rattle.std.specs.List.{Contains}
 use Rattle.spec_data.specs.Ranges.{most_item_bytes}
 use Rattle.spec_bitcoin.specs.declared.tx.OutPoint.{OutPoint}
@@ -11,6 +11,7 @@ use Rattle.spec_bitcoin.specs.Verdict.{script_of, items_of}
 use Rattle.spec_compiler.specs.Keyed.Instance.{Instance}
 use Rattle.spec_deal.specs.declared.transaction.Input.{Input}
 use Rattle.spec_deal.specs.declared.transaction.Transaction.{Transaction}
+use Rattle.spec_deal.specs.declared.transaction.Wallet.{Wallet}
 use Rattle.spec_chain.specs.declared.fault.ChainReason.{ChainReason}
 use Rattle.spec_chain.specs.declared.fault.ChainReason.TheVariants as reasons
 use Rattle.spec_chain.specs.declared.output.Output.{Output}
@@ -46,13 +47,18 @@ IsShut hash script witness =
     ⊎ (((item : List ℕ) × Contains (items_of witness) item × (most_item_bytes < length item))
     ⊎ (script_meaning hash takes_all script (items_of witness) ≡ false)))
 
+-- of what a wallet brings nothing but an item is asked
+abbrev pub IsShutBy : (List ℕ → List ℕ) → Option Wallet → List ℕ → List (List ℕ) → Type 0
+IsShutBy hash None script witness = IsShut hash script witness
+IsShutBy hash (Some w) script witness = witness ≡ []
+
 -- the witness of input k doesn't open what the input spends
 pub record IsWitnessBad (hash : List ℕ → List ℕ) (those : List Input) (inputs : List TxIn) (k : ℕ) : Type 0 where
   pub planned : Input
   pub input : TxIn
   pub is_planned : slice_get those k ≡ Some planned
   pub is_input : slice_get inputs k ≡ Some input
-  pub shut : IsShut hash planned.spent.script input.witness
+  pub shut : IsShutBy hash planned.wallet planned.spent.script input.witness
 
 -- the reason holds of a transaction of a block of this height, where the deal stands so; the transaction is the deal's by its bytes
 abbrev pub IsReason : (List ℕ → List ℕ) → Instance → List Transaction → State → ℕ → Tx → ChainReason → Type 0

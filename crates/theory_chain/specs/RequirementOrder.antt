@@ -44,10 +44,11 @@ RequirementsInOrder =
 
 -- ---- who is waited for
 
--- a line names a party: its signature or its secret is missing
+-- a line names a party: its signature, the witness of its wallet or its secret is missing
 abbrev pub Names : Requirement → List ℕ → Type 0
 Names (requirements.Height height) party = ⊥
 Names (requirements.Signature which input label verb) party = label_party label ≡ party
+Names (requirements.Wallet which input deposit owner verb) party = owner ≡ party
 Names (requirements.Deposit name) party = ⊥
 Names (requirements.Secret name holder) party = holder ≡ party
 Names requirements.DepositGone party = ⊥

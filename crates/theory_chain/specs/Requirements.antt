@@ -9,6 +9,7 @@ use Rattle.spec_tool.specs.Keyed.Listed.{Listed, listed_at}
 use Rattle.spec_deal.specs.declared.entry.Shown.{Shown}
 use Rattle.spec_deal.specs.declared.finish.FinishRefusal.TheVariants as refusals
 use Rattle.spec_deal.specs.declared.signed.Signed.{Signed}
+use Rattle.spec_deal.specs.declared.transaction.Wallet.{Wallet}
 use Rattle.spec_deal.specs.Finished.{which_branch, predicate_refusal}
 use Rattle.spec_deal.specs.Given.{has}
 use Rattle.spec_deal.specs.SecretFile.{string_for}
@@ -17,7 +18,7 @@ use Rattle.spec_chain.specs.declared.requirement.Requirement.{Requirement}
 use Rattle.spec_chain.specs.declared.requirement.Requirement.TheVariants as requirements
 use Rattle.spec_chain.specs.Following.{State}
 use Rattle.spec_chain.specs.Outputs.{is_deposit}
-use Rattle.spec_chain.specs.Outstanding.{is_needed_for, signature_requirement, deposits_needed, secrets_outstanding, secret_requirement, outstanding}
+use Rattle.spec_chain.specs.Outstanding.{is_needed_for, signature_requirement, unverified_for, deposits_needed, secrets_outstanding, secret_requirement, outstanding}
 
 -- the deposit is spent and isn't live
 abbrev pub IsGone : Instance → State → Which → List ℕ → Type 0
@@ -31,6 +32,10 @@ IsOutstanding hash keys s given strings state tip which l (requirements.Height h
 IsOutstanding hash keys s given strings state tip which l (requirements.Signature w k label verb) =
     (slot : Slot) × Contains (slots hash keys s) slot × (is_needed_for which slot ≡ true) × (has hash keys given slot ≡ false)
     × (signature_requirement slot ≡ requirements.Signature w k label verb)
+-- or the witness of a wallet
+IsOutstanding hash keys s given strings state tip which l (requirements.Wallet w k deposit owner verb) =
+    (slot : Slot) × Contains (slots hash keys s) slot × (is_needed_for which slot ≡ true) × (has hash keys given slot ≡ false)
+    × (signature_requirement slot ≡ requirements.Wallet w k deposit owner verb)
 IsOutstanding hash keys s given strings state tip which l (requirements.Deposit x) = IsGone s state which x
 -- it reveals the secret, which isn't known
 IsOutstanding hash keys s given strings state tip which l (requirements.Secret a party) =
@@ -46,3 +51,19 @@ RequirementsExactly =
     (which : Which) (l : Listed) (requirement : Requirement)
     → listed_at hash keys s which ≡ Some l
     → Contains (outstanding hash keys s given strings state tip which) requirement ↔ IsOutstanding hash keys s given strings state tip which l requirement
+
+-- ---- below a transaction that can come
+
+-- it needs the witness of a wallet, which is there
+pub record IsCountedOn (hash : List ℕ → List ℕ) (keys : Keys) (s : Instance) (given : List Signed) (which : Which) (slot : Slot) : Type 0 where
+  pub among : Contains (slots hash keys s) slot
+  pub needed : is_needed_for which slot ≡ true
+  pub wallet : Wallet
+  pub by_wallet : slot.wallet ≡ Some wallet
+  pub there : has hash keys given slot ≡ true
+
+-- a line `unverified` stands exactly where it counts on such a witness
+abbrev pub UnverifiedExactly : Type 0
+UnverifiedExactly =
+    (hash : List ℕ → List ℕ) (keys : Keys) (s : Instance) (given : List Signed) (which : Which) (slot : Slot)
+    → Contains (unverified_for hash keys s given which) slot ↔ IsCountedOn hash keys s given which slot

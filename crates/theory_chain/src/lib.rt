@@ -12,11 +12,14 @@ ghost use Rattle.theory_chain.specs.OwnAccepted.{OwnIsAccepted};
 ghost use Rattle.theory_chain.specs.Reasons.{BadExactly};
 ghost use Rattle.theory_chain.specs.Refused.{AcceptedExactly, CannotIsRefused, NotAskedIsSpent};
 ghost use Rattle.theory_chain.specs.RequirementOrder.{RequirementsInOrder, WaitsExactly};
-ghost use Rattle.theory_chain.specs.Requirements.{RequirementsExactly};
+ghost use Rattle.theory_chain.specs.Requirements.{RequirementsExactly, UnverifiedExactly};
 ghost use Rattle.theory_chain.specs.Revealed.{RevealedExactly, RevealedOnce, SecretsExactly};
 ghost use Rattle.theory_chain.specs.Runs.{ChainsAreRuns};
 
-use theory_deal::{finished_is_planned, finished_opens, finishes_exactly, signatures_in_order};
+use theory_deal::{
+    asks_exactly, finished_is_planned, finished_opens, finishes_exactly, inputs_opened,
+    signatures_in_order,
+};
 
 /// A chain file is taken exactly where its lines spell these transactions and this tip.
 pub fn chains_are_spelled()
@@ -62,16 +65,19 @@ pub fn known_fit()
     ensures { KnownFit }
 {}
 
-/// The witnesses of a transaction for which nothing is missing open what it spends, for every oracle that accepts its signatures.
+/// The witnesses of a transaction for which nothing is missing open what it spends, for every oracle that accepts its signatures; those of
+/// wallets are what was handed in.
 pub fn can_opens()
     ensures { CanOpens }
 {
     can_exactly();
     finished_opens();
+    inputs_opened();
     known_fit();
 }
 
-/// It is accepted at the tip by each ledger that has, of what it spends, what is live, for every oracle that accepts its signatures.
+/// It is accepted at the tip by each ledger that has, of what it spends, what is live, for every oracle that accepts its signatures, and
+/// consensus that takes the witnesses of wallets.
 pub fn can_is_accepted()
     ensures { CanIsAccepted }
 {
@@ -117,11 +123,17 @@ pub fn requirements_exactly()
     ensures { RequirementsExactly }
 {}
 
-/// They stand in order, each once: the lock, the signatures in the order of the text, the deposits by input, the secrets in the order of the
+/// Below a transaction that can come, each line `unverified` stands exactly where it counts on the witness of a wallet.
+pub fn unverified_exactly()
+    ensures { UnverifiedExactly }
+{}
+
+/// The lines below one that can't come stand in order, each once: the lock, the signatures in the order of the text, the deposits by input, the secrets in the order of the
 /// reveal, and what never comes.
 pub fn requirements_in_order()
     ensures { RequirementsInOrder }
 {
+    asks_exactly();
     signatures_in_order();
 }
 
@@ -139,7 +151,8 @@ pub fn what_can_goes_on()
     finished_is_planned();
 }
 
-/// Each transaction of the deal is accepted where it stands in a chain, by each ledger that has what is live there, if every signature is good.
+/// Each transaction of the deal is accepted where it stands in a chain, by each ledger that has what is live there, if every signature is good
+/// and consensus takes the witnesses of wallets.
 pub fn own_is_accepted()
     ensures { OwnIsAccepted }
 {}

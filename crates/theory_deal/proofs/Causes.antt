@@ -1,6 +1,6 @@
 -- Each status of the program for deals comes by its cause.
 use Rattle.std.proofs.Common.{◌≡◌, ℕ, ◌↔◌, true, List, [], ◌∷◌, Option, Some, None, refl, subst, arith, ◌∙◌}
-use Rattle.std.specs.Prelude.{Result, Ok, Err, is_err, is_some, ◌==◌, ◌&&◌}
+use Rattle.std.specs.Prelude.{Result, Ok, Err, is_err, is_some, ◌==◌, ◌&&◌, ◌||◌, if◌then◌else◌}
 use Rattle.std.specs.Option.{is_none}
 use Rattle.std.proofs.Common.{sym}
 use Rattle.std.specs.Prelude.{Bool, false}
@@ -24,7 +24,8 @@ use Rattle.spec_deal.specs.declared.fault.DealFault.{DealFault}
 use Rattle.spec_deal.specs.declared.fault.SignatureFault.{SignatureFault}
 use Rattle.spec_deal.specs.declared.finish.FinishRefusal.{FinishRefusal}
 use Rattle.spec_deal.specs.Answers.{with_advert, circular, unless_circular, unless_collided, with_deal, deal_in, of_deal, if_there}
-use Rattle.spec_deal.specs.Answers.{of_transaction, of_signatures, with_signatures, signatures_in}
+use Rattle.spec_deal.specs.Answers.{with_shown_deal, of_shown_deal, part_in, fund_answer, of_secrets, offered_in, hashes_answer}
+use Rattle.spec_deal.specs.Answers.{ready_answer, ready_with_answer, of_transaction, of_signatures, with_signatures, signatures_in}
 use Rattle.spec_deal.specs.Answers.{with_secrets, secrets_in, unless_refused, finished_answer}
 use Rattle.spec_deal.specs.Answers.{finish_answer, finish_with_answer, deal_text_answer, deal_read_answer, deal_answer}
 use Rattle.spec_deal.specs.Commands as commands
@@ -32,12 +33,17 @@ use Rattle.spec_deal.specs.Commands.{DealCommand}
 use Rattle.spec_deal.specs.Finished.{finished, finish_refusal}
 use Rattle.spec_bitcoin.specs.Spelling.{spelling}
 use Rattle.spec_deal.specs.Hashed.{deal_strings}
+use Rattle.spec_deal.specs.FundText.{fund_strings, fund_text}
+use Rattle.spec_deal.specs.HashesText.{hashes_text}
+use Rattle.spec_deal.specs.ReadyText.{is_ready, ready_text, endorse_text}
+use Rattle.spec_deal.specs.WarnText.{warn_text}
+use Rattle.spec_deal.specs.declared.entry.Entry.{Entry}
 use Rattle.spec_deal.specs.declared.entry.Shown.{Shown}
 use Rattle.spec_deal.specs.SecretFile.{SecretsRead, shows, refused, collided}
 use Rattle.spec_deal.specs.Setting.{deal_keys, deal_instance}
 use Rattle.spec_deal.specs.Verifier.{Verifier}
 use Rattle.theory_deal.proofs.InOrder.{in_order}
-use Rattle.theory_deal.specs.Causes.{deal_statuses, reads_deal, is_refused, is_deal_refused, DealCausesTheorem}
+use Rattle.theory_deal.specs.Causes.{deal_statuses, reads_deal, reads_part, is_refused, is_deal_refused, is_part_refused, DealCausesTheorem}
 
 -- what is answered of a deal that is taken: no status but these
 abbrev after_deal : List ℕ
@@ -164,35 +170,117 @@ module _ (v : Verifier) (hash : List ℕ → List ℕ) where
       (λ advert. deal_later answer advert (deal_in v advert (text_at texts 1)) h)
       (same_refusal (contract_in (text_at texts 0)) (text_at texts 1))
 
+  -- the same of a command that shows addresses
+  shown_later : (answer : Option (List ℕ) → Keys → Instance → Printed) (advert : Advert) (r : Result Deal DealFault)
+      → ((network : Option (List ℕ)) (keys : Keys) (s : Instance) → IsLater (answer network keys s))
+      → OfDeal (with_shown_deal hash answer advert r) (is_refused hash advert r)
+  shown_later answer advert (Err fault) h = record { thirteen = (λ e. refl, λ e. refl); any = refl }
+  shown_later answer advert (Ok deal) h = deal_later (answer deal.network) advert (Ok deal) (h deal.network)
+
+  of_shown_begins : (answer : Option (List ℕ) → Keys → Instance → Printed) (texts : List Text)
+      → ((network : Option (List ℕ)) (keys : Keys) (s : Instance) → IsLater (answer network keys s))
+      → Begins (of_shown_deal v hash answer texts) (contract_in (text_at texts 0))
+      (is_deal_refused v hash (contract_in (text_at texts 0)) (text_at texts 1))
+  of_shown_begins answer texts h =
+      begins (λ advert. with_shown_deal hash answer advert (deal_in v advert (text_at texts 1)))
+      (λ advert. is_refused hash advert (deal_in v advert (text_at texts 1)))
+      (contract_in (text_at texts 0)) (is_deal_refused v hash (contract_in (text_at texts 0)) (text_at texts 1))
+      (λ advert. shown_later answer advert (deal_in v advert (text_at texts 1)) h)
+      (same_refusal (contract_in (text_at texts 0)) (text_at texts 1))
+
+  -- a deal file that may lack lines
+  part_later : (advert : Advert) (r : Result (List Entry) DealFault) → OfDeal (fund_answer hash advert r) (is_err r)
+  part_later advert (Err fault) = record { thirteen = (λ e. refl, λ e. refl); any = refl }
+  part_later advert (Ok entries) = by_collision (collision hash [] (fund_strings advert entries))
+    where
+      by_collision : (o : Option (List ℕ × List ℕ)) → OfDeal (unless_collided o (prints 0 (fund_text hash advert entries))) false
+      by_collision None = taken_deal (prints 0 (fund_text hash advert entries)) refl
+      by_collision (Some pair) = taken_deal (unless_collided (Some pair) (prints 0 (fund_text hash advert entries))) refl
+
+  same_part : (r : Judged Advert) (text : Text)
+      → is_part_refused v r text ≡ elim r [ Ok advert ↦ is_err (part_in v advert text) | Err why ↦ false ]
+  same_part (Ok advert) text = refl
+  same_part (Err why) text = refl
+
+  ready_later : (keys : Keys) (s : Instance) (given : List Signed) (strings : List Shown) → IsLater (ready_answer hash keys s given strings)
+  ready_later keys s given strings = by_test (is_ready hash keys s given)
+    where
+      by_test : (b : Bool) → IsLater (prints (if b then 0 else 16) (ready_text hash keys s given strings))
+      by_test true = refl
+      by_test false = refl
+
+  -- of one that reads a whole deal, nothing is asked of a part
+  whole : {printed : Printed} {r : Judged Advert} (b : Bool) → Begins printed r b → Begins printed r (b || false)
+  whole {printed} {r} b h = subst (Begins printed r) (sym (or_none b)) h
+    where
+      or_none : (x : Bool) → (x || false) ≡ x
+      or_none true = refl
+      or_none false = refl
+
   text_begins : (command : DealCommand) (texts : List Text)
       → Begins (deal_text_answer v hash command texts) (contract_in (text_at texts 0))
-      (reads_deal command && is_deal_refused v hash (contract_in (text_at texts 0)) (text_at texts 1))
+      (reads_deal command && is_deal_refused v hash (contract_in (text_at texts 0)) (text_at texts 1)
+      || reads_part command && is_part_refused v (contract_in (text_at texts 0)) (text_at texts 1))
   text_begins (commands.keys contract) texts =
       begins (λ advert. prints 0 (keys_text advert)) (λ advert. false) (contract_in (text_at texts 0)) false
       (λ advert. taken_deal (prints 0 (keys_text advert)) refl) (none_refused (contract_in (text_at texts 0)))
-  text_begins (commands.plan contract deal) texts = of_deal_begins (λ keys s. prints 0 (plan_text hash keys s)) texts (λ keys s. refl)
-  text_begins (commands.psbts contract deal) texts = of_deal_begins (λ keys s. prints 0 (psbts_text hash keys s)) texts (λ keys s. refl)
+  text_begins (commands.plan contract deal) texts =
+      whole _ (of_shown_begins (λ network keys s. prints 0 (plan_text hash network keys s)) texts (λ network keys s. refl))
+  text_begins (commands.psbts contract deal) texts =
+      whole _ (of_deal_begins (λ keys s. prints 0 (psbts_text hash keys s)) texts (λ keys s. refl))
   text_begins (commands.psbt contract deal which) texts =
-      let one : Keys → Instance → Listed → Printed = λ keys s l. prints 0 (psbt_line (unsigned_psbt hash l)) in
-      of_deal_begins (of_transaction hash which one) texts
-      (λ keys s. there_later (one keys s) which (listed_at hash keys s which) (λ l. refl))
+      let one : Keys → Instance → Listed → Printed = λ keys s l. prints 0 (psbt_line (unsigned_psbt hash keys s.advert l)) in
+      whole _ (of_deal_begins (of_transaction hash which one) texts
+      (λ keys s. there_later (one keys s) which (listed_at hash keys s which) (λ l. refl)))
   text_begins (commands.missing contract deal signatures) texts =
       let one : Keys → Instance → List Signed → Printed = λ keys s given. prints 0 (missing_text hash keys s given) in
-      of_deal_begins (of_signatures v hash one (text_at texts 2)) texts
-      (λ keys s. signatures_later (one keys s) (signatures_in v hash keys s (text_at texts 2)) (λ given. refl))
+      whole _ (of_deal_begins (of_signatures v hash one (text_at texts 2)) texts
+      (λ keys s. signatures_later (one keys s) (signatures_in v hash keys s (text_at texts 2)) (λ given. refl)))
   text_begins (commands.held contract deal signatures) texts =
       let one : Keys → Instance → List Signed → Printed = λ keys s given. prints 0 (held_text hash keys s given) in
-      of_deal_begins (of_signatures v hash one (text_at texts 2)) texts
-      (λ keys s. signatures_later (one keys s) (signatures_in v hash keys s (text_at texts 2)) (λ given. refl))
+      whole _ (of_deal_begins (of_signatures v hash one (text_at texts 2)) texts
+      (λ keys s. signatures_later (one keys s) (signatures_in v hash keys s (text_at texts 2)) (λ given. refl)))
   text_begins (commands.finish contract deal which signatures) texts =
       let one = finish_answer v hash (text_at texts 2) in
-      of_deal_begins (of_transaction hash which one) texts
-      (λ keys s. there_later (one keys s) which (listed_at hash keys s which) (finish_later (text_at texts 2) keys s))
+      whole _ (of_deal_begins (of_transaction hash which one) texts
+      (λ keys s. there_later (one keys s) which (listed_at hash keys s which) (finish_later (text_at texts 2) keys s)))
   text_begins (commands.finish_with contract deal which signatures secrets) texts =
       let one = finish_with_answer v hash (text_at texts 2) (text_at texts 3) in
-      of_deal_begins (of_transaction hash which one) texts
+      whole _ (of_deal_begins (of_transaction hash which one) texts
       (λ keys s. there_later (one keys s) which (listed_at hash keys s which) (finish_with_later (text_at texts 2)
-      (text_at texts 3) keys s))
+      (text_at texts 3) keys s)))
+  text_begins (commands.fund contract deal) texts =
+      begins (λ advert. fund_answer hash advert (part_in v advert (text_at texts 1))) (λ advert. is_err (part_in v advert (text_at texts 1)))
+      (contract_in (text_at texts 0)) (is_part_refused v (contract_in (text_at texts 0)) (text_at texts 1))
+      (λ advert. part_later advert (part_in v advert (text_at texts 1))) (same_part (contract_in (text_at texts 0)) (text_at texts 1))
+  text_begins (commands.warn contract deal) texts =
+      whole _ (of_deal_begins (λ keys s. prints 0 (warn_text hash keys s [])) texts (λ keys s. refl))
+  text_begins (commands.warn_with contract deal secrets) texts =
+      let one : Keys → Instance → List Shown → Printed = λ keys s strings. prints 0 (warn_text hash keys s strings) in
+      whole _ (of_deal_begins (of_secrets hash one (text_at texts 2)) texts
+      (λ keys s. secrets_later (one keys s) (secrets_in hash keys s (text_at texts 2)) (λ strings. refl)))
+  text_begins (commands.ready contract deal signatures) texts =
+      let one : Keys → Instance → List Signed → Printed = λ keys s given. ready_answer hash keys s given [] in
+      whole _ (of_deal_begins (of_signatures v hash one (text_at texts 2)) texts
+      (λ keys s.
+      signatures_later (one keys s) (signatures_in v hash keys s (text_at texts 2)) (λ given. ready_later keys s given [])))
+  text_begins (commands.ready_with contract deal signatures secrets) texts =
+      whole _ (of_deal_begins (ready_with_answer v hash (text_at texts 2) (text_at texts 3)) texts
+      (λ keys s.
+      signatures_later
+      (λ given. with_secrets (λ strings. ready_answer hash keys s given strings) (secrets_in hash keys s (text_at texts 3)))
+      (signatures_in v hash keys s (text_at texts 2))
+      (λ given.
+      secrets_later (λ strings. ready_answer hash keys s given strings) (secrets_in hash keys s (text_at texts 3))
+      (λ strings. ready_later keys s given strings))))
+  text_begins (commands.endorse contract deal party) texts =
+      whole _ (of_deal_begins (λ keys s. prints 0 (endorse_text hash keys s party)) texts (λ keys s. refl))
+  text_begins (commands.hashes contract secrets) texts =
+      begins (hashes_answer hash (text_at texts 1)) (λ advert. false) (contract_in (text_at texts 0)) false
+      (λ advert.
+      taken_deal (hashes_answer hash (text_at texts 1) advert)
+      (secrets_later (λ strings. prints 0 (hashes_text hash strings)) (offered_in hash advert (text_at texts 1)) (λ strings. refl)))
+      (none_refused (contract_in (text_at texts 0)))
 
   -- ---- reads and words
 

@@ -48,7 +48,7 @@ module _ (hash : List ℕ → List ℕ) (keys : Keys) (s : Instance) where
   -- ---- the initial transaction has none
 
   none_initial : (k : ℕ) (spends : List Spent) (ds : List (List ℕ × Holding))
-      → shown (slots_from s.advert (initial_listed hash keys s) k spends (map (λ d. deposit_signer (d.1).owner) ds)) ≡ []
+      → shown (slots_from keys s.advert (initial_listed hash keys s) k spends (map (λ d. deposit_signer (d.1).owner) ds)) ≡ []
   none_initial k [] ds = refl
   none_initial k (spent ∷ spends) [] = refl
   none_initial k (spent ∷ spends) (d ∷ ds) = none_initial (k + 1) spends ds
@@ -57,7 +57,7 @@ module _ (hash : List ℕ → List ℕ) (keys : Keys) (s : Instance) where
 
   module _ (path : List PathStep) (d : Unsigned) where
     branch_shown : (b : term.Guarded) (spent : Spent) (parties : List (List ℕ)) → at s.advert.root path ≡ Some b
-        → shown (input_slots s.advert (path_listed s path d) 0 spent (map (branch_label s.contract path) parties))
+        → shown (input_slots keys s.advert (path_listed s path d) 0 spent (map (branch_label s.contract path) parties))
         ≡ map
         (λ party.
         record {
@@ -76,8 +76,9 @@ module _ (hash : List ℕ → List ℕ) (keys : Keys) (s : Instance) where
           spent = spent;
           label = branch_label s.contract path p;
           verb = verb_of s.advert (names.At path) (branch_label s.contract path p);
+          wallet = None;
         } in
-        shown_one slot (input_slots s.advert (path_listed s path d) 0 spent (map (branch_label s.contract path) ps)) (is_asked b p)
+        shown_one slot (input_slots keys s.advert (path_listed s path d) 0 spent (map (branch_label s.contract path) ps)) (is_asked b p)
         (ap (λ (o : Option term.Guarded). branch_verb o p) h)
         ∙ by_test (is_asked b p) (filter (λ party. not (is_asked b party)) ps) (branch_shown b spent ps h)
       where
@@ -90,7 +91,7 @@ module _ (hash : List ℕ → List ℕ) (keys : Keys) (s : Instance) where
         }
 
         rest : List Need
-        rest = shown (input_slots s.advert (path_listed s path d) 0 spent (map (branch_label s.contract path) ps))
+        rest = shown (input_slots keys s.advert (path_listed s path d) 0 spent (map (branch_label s.contract path) ps))
 
         by_test : (t : Bool) (ns : List (List ℕ)) → rest ≡ map need ns
             → cond (not t) (need p ∷ rest) rest ≡ map need (cond (not t) (p ∷ ns) ns)
@@ -98,7 +99,7 @@ module _ (hash : List ℕ → List ℕ) (keys : Keys) (s : Instance) where
         by_test false ns e = ap (λ (x : List Need). need p ∷ x) e
 
     puts_shown : (k : ℕ) (spends : List Spent) (puts : List (List ℕ))
-        → shown (slots_from s.advert (path_listed s path d) k spends (map (λ name. deposit_signer (put_owner s.advert name)) puts))
+        → shown (slots_from keys s.advert (path_listed s path d) k spends (map (λ name. deposit_signer (put_owner s.advert name)) puts))
         ≡ put_needs hash keys s.advert path puts (map (digest_of_spent hash (tx_of d)) spends)
     puts_shown k [] [] = refl
     puts_shown k [] (name ∷ puts) = refl
@@ -112,28 +113,28 @@ module _ (hash : List ℕ → List ℕ) (keys : Keys) (s : Instance) where
         } in
         ap (λ (x : List Need). need ∷ x) (puts_shown (k + 1) spends puts)
 
-    unsigned_none : (k : ℕ) (spends : List Spent) → shown (slots_from s.advert (path_listed s path d) k spends []) ≡ []
+    unsigned_none : (k : ℕ) (spends : List Spent) → shown (slots_from keys s.advert (path_listed s path d) k spends []) ≡ []
     unsigned_none k [] = refl
     unsigned_none k (spent ∷ spends) = refl
 
     all_shown : (b : term.Guarded) (spends : List Spent) → at s.advert.root path ≡ Some b
-        → shown (slots_from s.advert (path_listed s path d) 0 spends (branch_signers s.contract s.advert path b))
+        → shown (slots_from keys s.advert (path_listed s path d) 0 spends (branch_signers s.contract s.advert path b))
         ≡ needs_of hash keys s.contract s.advert path b (map (digest_of_spent hash (tx_of d)) spends)
     all_shown b [] h = refl
     all_shown b (spent ∷ spends) h =
         let first = branch_shown b spent (participants s.advert) h in
         let later = puts_shown 1 spends (puts_of (core b)) in
-        shown_append (input_slots s.advert (path_listed s path d) 0 spent (map (branch_label s.contract path) (participants s.advert)))
-        (slots_from s.advert (path_listed s path d) 1 spends
+        shown_append (input_slots keys s.advert (path_listed s path d) 0 spent (map (branch_label s.contract path) (participants s.advert)))
+        (slots_from keys s.advert (path_listed s path d) 1 spends
         (map (λ name. deposit_signer (put_owner s.advert name)) (puts_of (core b))))
         ∙ (λ i. first i ++ later i)
 
-    one_path : shown (listed_slots s.advert (path_listed s path d))
+    one_path : shown (listed_slots keys s.advert (path_listed s path d))
         ≡ path_needs hash keys s.contract s.advert path (prepared hash d)
     one_path = by_branch (at s.advert.root path) refl
       where
         by_branch : (o : Option term.Guarded) → at s.advert.root path ≡ o
-            → shown (slots_from s.advert (path_listed s path d) 0 d.spends
+            → shown (slots_from keys s.advert (path_listed s path d) 0 d.spends
             (option_map_or (branch_signers s.contract s.advert path) o []))
             ≡ option_map_or
             (λ b. needs_of hash keys s.contract s.advert path b (map (digest_of_spent hash (tx_of d)) d.spends)) o []
@@ -141,20 +142,20 @@ module _ (hash : List ℕ → List ℕ) (keys : Keys) (s : Instance) where
         by_branch (Some b) h = all_shown b d.spends h
 
   paths_shown : (es : List (List PathStep × Unsigned))
-      → shown (flat_map (listed_slots s.advert) (map (λ p. path_listed s (p.0) (p.1)) es))
+      → shown (flat_map (listed_slots keys s.advert) (map (λ p. path_listed s (p.0) (p.1)) es))
       ≡ needs hash keys s.contract s.advert (map {B = List PathStep × Prepared} (λ p. (p.0, prepared hash p.1)) es)
   paths_shown [] = refl
   paths_shown (e ∷ es) =
       let first = one_path (e.0) (e.1) in
       let later = paths_shown es in
-      shown_append (listed_slots s.advert (path_listed s (e.0) (e.1)))
-      (flat_map (listed_slots s.advert) (map (λ p. path_listed s (p.0) (p.1)) es))
+      shown_append (listed_slots keys s.advert (path_listed s (e.0) (e.1)))
+      (flat_map (listed_slots keys s.advert) (map (λ p. path_listed s (p.0) (p.1)) es))
       ∙ (λ i. first i ++ later i)
 
 pub endorsements_of_runs : EndorsementsOfRuns
 endorsements_of_runs hash keys s =
     let first = none_initial hash keys s 0 (initial_listed hash keys s).pending.spends (persistent s.advert.pre) in
     let later = paths_shown hash keys s (path_transactions hash keys s) in
-    shown_append hash keys s (listed_slots s.advert (initial_listed hash keys s))
-    (flat_map (listed_slots s.advert) (map (λ p. path_listed s (p.0) (p.1)) (path_transactions hash keys s)))
+    shown_append hash keys s (listed_slots keys s.advert (initial_listed hash keys s))
+    (flat_map (listed_slots keys s.advert) (map (λ p. path_listed s (p.0) (p.1)) (path_transactions hash keys s)))
     ∙ (λ i. first i ++ later i)

@@ -200,3 +200,10 @@ finish_answers v hash (commands.finish_with contract deal other signatures secre
     IsFinishedText v hash texts w
     (of_deal v hash (of_transaction hash other (finish_with_answer v hash (text_at texts 2) (text_at texts 3))) texts).text)
     (some_same e) (finish_with_good v hash bytes texts other z)
+finish_answers v hash (commands.fund contract deal) texts which bytes e z = cc
+finish_answers v hash (commands.warn contract deal) texts which bytes e z = cc
+finish_answers v hash (commands.warn_with contract deal secrets) texts which bytes e z = cc
+finish_answers v hash (commands.ready contract deal signatures) texts which bytes e z = cc
+finish_answers v hash (commands.ready_with contract deal signatures secrets) texts which bytes e z = cc
+finish_answers v hash (commands.endorse contract deal party) texts which bytes e z = cc
+finish_answers v hash (commands.hashes contract secrets) texts which bytes e z = cc

@@ -45,14 +45,14 @@ files_for_signers transactions v hash texts advert deal contract_file deal_file 
     let are = transactions hash keys s in
     let one = λ (which : Which) (l : Listed) (e : listed_at hash keys s which ≡ Some l).
     answered v hash texts advert deal taken
-    (of_transaction hash which (λ k t x. prints 0 (psbt_line (unsigned_psbt hash x))))
-    ∙ ap (if_there (λ x. prints 0 (psbt_line (unsigned_psbt hash x))) which) e in
+    (of_transaction hash which (λ k t x. prints 0 (psbt_line (unsigned_psbt hash k t.advert x))))
+    ∙ ap (if_there (λ x. prints 0 (psbt_line (unsigned_psbt hash keys advert x))) which) e in
     record {
       each = one;
       all =
           answered v hash texts advert deal taken (λ k t. prints 0 (psbts_text hash k t))
           ∙ ap (prints 0)
-          (flat_same (λ x. psbt_line (unsigned_psbt hash x)) (file_of v hash contract_file deal_file texts) (λ (x : Listed). x.which)
+          (flat_same (λ x. psbt_line (unsigned_psbt hash keys advert x)) (file_of v hash contract_file deal_file texts) (λ (x : Listed). x.which)
           (listed hash keys s)
           (λ l i. sym (ap (λ (p : Printed). p.text) (one l.which l ((are.each l).0 (contains_from_in (listed hash keys s) l i)))))
           ∙ ap (flat_map (file_of v hash contract_file deal_file texts)) are.named);

@@ -2,6 +2,7 @@ pub mod Accepted
 pub mod ByBook
 pub mod DifferentOutputs
 pub mod Funded
+pub mod InputChecks
 pub mod KeysApart
 pub mod Made
 pub mod PlacesApart

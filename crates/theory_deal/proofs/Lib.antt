@@ -2,6 +2,7 @@ mod Ascending
 pub mod Branches
 pub mod ByName
 mod Causes
+mod Circles
 mod DealFiles
 mod DealLines
 mod Ecdsa
@@ -12,9 +13,11 @@ mod FirstOf
 pub mod OfKeys
 mod ForSigners
 mod InOrder
+mod KeysGiven
 pub mod Ledger
 pub mod Listed
 mod NothingTwice
+mod Plain
 mod PlanOfRuns
 mod Planned
 pub mod ReadAgain
@@ -30,7 +33,9 @@ mod Signing
 mod SigningOrder
 mod Transactions
 mod Unsigned
+mod Used
 mod Verified
+mod WalletWitnesses
 pub mod WellFormed
 pub mod Whole
 pub mod WholeDeals

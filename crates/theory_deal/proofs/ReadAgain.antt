@@ -36,7 +36,6 @@ use Rattle.theory_deal.proofs.Ledger.Funded.{funded_at}
 use Rattle.theory_deal.proofs.ReadDeals.{deals_are_sized}
 use Rattle.theory_deal.proofs.ReadSignatures.{signatures_are_shaped}
 use Rattle.theory_deal.proofs.Ledger.Verdicts.{IsFunded}
-use Rattle.theory_deal.proofs.OfKeys.{deal_of_keys, deal_payable}
 use Rattle.theory_deal.proofs.Whole.{strings_fit}
 use Rattle.theory_deal.proofs.WholeDeals.{deals_give_all}
 use Rattle.theory_deal.proofs.Widths.DealBytes.{deal_widths}
@@ -202,7 +201,7 @@ finished_is_read_again v hash advert deal_text deal file given strings which l b
     let applied = sized.applied checked in
     let widths = deal_widths v hash advert deal_text deal deal_read in
     let spends =
-    spendable_at hash bytes keys s applied (deals_give_all v advert deal_text deal deal_read).deposits widths.places sized.are_keys (deal_of_keys deal)
+    spendable_at hash bytes keys s applied (deals_give_all v advert deal_text deal deal_read).deposits widths.places sized.are_keys widths.wallets
     widths.keys widths.hashes which l there in
     let stacks =
     stacks_at hash keys s given strings (signature_bytes v hash keys s file given given_read) (secret_bytes hash keys s strings strings_read)
@@ -210,7 +209,7 @@ finished_is_read_again v hash advert deal_text deal file given strings which l b
     spends in
     let ws = witnesses hash keys s given strings l l.which in
     let tx : Tx = with_witnesses (tx_of l.pending) ws in
-    let is = fits hash keys s bytes l.pending ws (funded_at hash keys s checked which l there) (small_at hash bytes keys s (deal_payable deal) checked which l there)
+    let is = fits hash keys s bytes l.pending ws (funded_at hash keys s checked which l there) (small_at hash bytes keys s widths.payees checked which l there)
     spends stacks in
     let spells : Spells (spelling tx) tx = record { same = refl; fits = is } in
     record {

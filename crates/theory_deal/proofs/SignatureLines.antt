@@ -1,14 +1,15 @@
 -- A file of signatures comes to what its lines come to.
 use Rattle.std.proofs.Common.{◌≡◌, ℕ, ◌+◌, ◌<◌, ◌≤◌, List, [], ◌∷◌, ◌++◌, length, Bool, true, false, not, Option, Some, None, refl, sym, ap, subst, ◌∙◌, cond, arith, inl, inr}
-use Rattle.std.specs.Prelude.{Decides, ◌↔◌, nat_lt, Result, Ok, Err, ◌&&◌, ◌||◌, ◌==◌, take}
+use Rattle.std.specs.Prelude.{Decides, ◌↔◌, ◌⊎◌, nat_lt, Result, Ok, Err, ◌&&◌, ◌||◌, ◌==◌, take, slice_index, if◌then◌else◌}
 use Rattle.std.specs.List.{find}
 use Rattle.std.specs.Str.{bytes_eq}
 use Rattle.std.proofs.lemmas.Bool.{and_parts, and_from, false≢true}
-use Rattle.std.proofs.lemmas.Bool.Decides.{nat_tests, Decides-and, Decides-not, Decides-eqb, Decides-like}
+use Rattle.std.proofs.lemmas.Bool.Decides.{nat_tests, Decides-and, Decides-or, Decides-not, Decides-eqb, Decides-like}
 use Rattle.std.proofs.lemmas.Slice.Eq.{bytes_eq-Decides}
 use Rattle.spec_bitcoin.specs.declared.tx.TxOut.{TxOut}
 use Rattle.spec_bitcoin.specs.Keys.{key_bytes, deposit_script}
-use Rattle.spec_bitcoin.specs.Spelling.{IsBytes, stripped}
+use Rattle.spec_bitcoin.specs.Spelling.{IsBytes, stripped, is_filled}
+use Rattle.spec_compiler.specs.Keyed.OwnScripts.{pays_to_key_hash}
 use Rattle.spec_run.specs.Ledger.{same_output}
 use Rattle.spec_text.specs.Lines.{lines_of, words_of}
 use Rattle.spec_tool.specs.declared.psbt.PsbtInput.{PsbtInput}
@@ -27,6 +28,13 @@ use Rattle.spec_deal.specs.declared.transaction.Transaction.{Transaction}
 use Rattle.spec_deal.specs.Transactions.{Required, all_required, is_at, transactions}
 use Rattle.spec_deal.specs.Verifier.{Verifier}
 use Rattle.spec_deal.specs.SignatureFile.{Taken, same_place, verifies_if, is_verified, taken_first, refused_second, taken_once}
+use Rattle.spec_deal.specs.SignatureFile.{is_taproot_signature, shows_a_key, may_be_taproot, has_witness_form, has_strict_signature}
+use Rattle.spec_deal.specs.SignatureFile.{verifies_beside, same_items, witness_taken_once, take_witness, take_final}
+use Rattle.spec_deal.specs.SignatureFile.{take_key_input, take_wallet_input}
+use Rattle.spec_deal.specs.DealFile.{is_compressed}
+use Rattle.spec_deal.specs.Payable.{has_taproot_form}
+use Rattle.spec_deal.specs.Wallets.{first_item, second_item}
+use Rattle.spec_deal.specs.declared.transaction.Wallet.{Wallet}
 use Rattle.spec_deal.specs.SignatureFile.{take_signature, take_signatures, script_key, is_one_key, spent_fits, script_fits, witness_fits}
 use Rattle.spec_deal.specs.SignatureFile.{final_signature, take_input, take_inputs, has_bytes, take_transaction, take_psbt, take_bytes}
 use Rattle.spec_deal.specs.SignatureFile.{take_words, take_lines, read_given}
@@ -35,9 +43,12 @@ use Rattle.theory_psbt.proofs.Base64ReadBack.{text_reads}
 use Rattle.theory_psbt.proofs.Base64OnlyWritten.{bytes_only}
 use Rattle.theory_deal.specs.FirstOf.{NoneIs, IsFirst}
 use Rattle.theory_deal.specs.SignatureLines.{IfSo, IfAny, IfOne, IsThen, IsFor, Verifies, IsInPlace, FirstTaken, SecondTaken, SignatureTaken}
-use Rattle.theory_deal.specs.SignatureLines.{signed_by, SignaturesTaken, SaysOther, FinalGives, InputTaken, InputsTaken, IsCoded, HasBytes}
+use Rattle.theory_deal.specs.SignatureLines.{signed_by, SignaturesTaken, SaysOther, FinalGives, KeyInputTaken, ShowsKey, MayBeTaproot}
+use Rattle.theory_deal.specs.SignatureLines.{CanSpend, VerifiesBeside, WitnessTaken, witnessed_by, FinalTaken, WalletInputTaken}
+use Rattle.theory_deal.specs.SignatureLines.{InputTakenBy, InputTaken, InputsTaken, IsCoded, HasBytes}
 use Rattle.theory_deal.specs.SignatureLines.{PsbtTaken, BytesTaken, WordsTaken, SignaturesCome, SignaturesAre, SignatureFilesAreRead}
 use Rattle.theory_deal.proofs.FirstOf.{refuted, is_false, none_found, none_finds, found_first, first_found, none_any, each_is}
+use Rattle.theory_deal.proofs.DealLines.{compressed}
 use Rattle.theory_deal.proofs.Shapes.{shape_exactly}
 
 -- ---- cases
@@ -140,6 +151,21 @@ other_script : (script : List ℕ) (said : Option (List ℕ)) → Decides (not (
 other_script script None = (λ e. false≢true e, λ h. absurd h)
 other_script script (Some said) = Decides-not (bytes_eq said script) (bytes_eq-Decides said script)
 
+-- ---- what is taken
+
+first_taken : {P : Type 0} (b : Bool) → Decides b P → (given : List Signed) (g : Signed) (taken : Taken)
+    → (taken_first b given g ≡ taken) ↔ FirstTaken P given g taken
+first_taken b d given g taken =
+    if_so taken b (Ok (given ++ g ∷ [])) (Err (reasons.Invalid g.input)) d (same taken (Ok (given ++ g ∷ [])))
+    (same taken (Err (reasons.Invalid g.input)))
+
+second_taken : {P Q : Type 0} (b c : Bool) → Decides b P → Decides c Q → (given : List Signed) (g : Signed) (taken : Taken)
+    → (cond c (Ok given) (refused_second b g) ≡ taken) ↔ SecondTaken P Q given g taken
+second_taken b c d e given g taken =
+    if_so taken c (Ok given) (refused_second b g) e (same taken (Ok given))
+    (if_so taken b (Err (reasons.Conflict g.input)) (Err (reasons.Invalid g.input)) d (same taken (Err (reasons.Conflict g.input)))
+    (same taken (Err (reasons.Invalid g.input))))
+
 -- ---- a signature
 
 module _ (v : Verifier) (required : List Required) where
@@ -155,20 +181,6 @@ module _ (v : Verifier) (required : List Required) where
   abbrev in_place : Signed → Signed → Bool
   in_place g earlier = same_place earlier g
 
-  first_taken : (given : List Signed) (g : Signed) (taken : Taken)
-      → (taken_once (is_verified v required g) given g None ≡ taken) ↔ FirstTaken v required given g taken
-  first_taken given g taken =
-      if_so taken (is_verified v required g) (Ok (given ++ g ∷ [])) (Err (reasons.Invalid g.input)) (verified_decides g)
-      (same taken (Ok (given ++ g ∷ []))) (same taken (Err (reasons.Invalid g.input)))
-
-  second_taken : (given : List Signed) (g : Signed) (taken : Taken) (earlier : Signed)
-      → (taken_once (is_verified v required g) given g (Some earlier) ≡ taken) ↔ SecondTaken v required given g taken earlier
-  second_taken given g taken earlier =
-      if_so taken (bytes_eq earlier.signature g.signature) (Ok given) (refused_second (is_verified v required g) g)
-      (bytes_eq-Decides earlier.signature g.signature) (same taken (Ok given))
-      (if_so taken (is_verified v required g) (Err (reasons.Conflict g.input)) (Err (reasons.Invalid g.input)) (verified_decides g)
-      (same taken (Err (reasons.Conflict g.input))) (same taken (Err (reasons.Invalid g.input))))
-
   signature_taken : (given : List Signed) (g : Signed) (taken : Taken)
       → (take_signature v required given g ≡ taken) ↔ SignatureTaken v required given g taken
   signature_taken given g taken =
@@ -179,8 +191,11 @@ module _ (v : Verifier) (required : List Required) where
       (if_so taken (not (is_strict g.signature)) (Err (reasons.Signature g.input))
       (taken_once (is_verified v required g) given g (find (in_place g) given))
       (Decides-not (is_strict g.signature) (shape_exactly g.signature)) (same taken (Err (reasons.Signature g.input)))
-      (if_any taken (IsInPlace g) (SecondTaken v required given g taken) (in_place g) (place_decides g) given
-      (taken_once (is_verified v required g) given g) (first_taken given g taken) (second_taken given g taken)))
+      (if_any taken (IsInPlace g) (λ earlier. SecondTaken (Verifies v required g) (earlier.signature ≡ g.signature) given g taken)
+      (in_place g) (place_decides g) given (taken_once (is_verified v required g) given g)
+      (first_taken (is_verified v required g) (verified_decides g) given g taken)
+      (λ earlier. second_taken (is_verified v required g) (bytes_eq earlier.signature g.signature) (verified_decides g)
+      (bytes_eq-Decides earlier.signature g.signature) given g taken)))
 
   signatures_taken : (tx : List ℕ) (k : ℕ) (given : List Signed) (ps : List Pairing) (taken : Taken)
       → (take_signatures v required tx k given ps ≡ taken) ↔ SignaturesTaken v required tx k given ps taken
@@ -190,6 +205,119 @@ module _ (v : Verifier) (required : List Required) where
       (λ reason. taken ≡ Err reason) (take_signature v required given (signed_by tx k p))
       (λ (r : Taken). elim r [ Ok more ↦ take_signatures v required tx k more ps | Err reason ↦ Err reason ])
       (λ q. signature_taken given (signed_by tx k p) q) (λ more. signatures_taken tx k more ps taken) (λ reason. same taken (Err reason))
+
+-- ---- a witness of a wallet's
+
+-- words of bytes are the same
+items_decide : (xs ys : List (List ℕ)) → Decides (same_items xs ys) (xs ≡ ys)
+items_decide [] [] = (λ e. refl, λ e. refl)
+items_decide [] (y ∷ ys) = (λ e. absurd (false≢true e), λ e. cc)
+items_decide (x ∷ xs) [] = (λ e. absurd (false≢true e), λ e. cc)
+items_decide (x ∷ xs) (y ∷ ys) =
+    Decides-like (same_items (x ∷ xs) (y ∷ ys)) (λ h. λ i. h.0 i ∷ h.1 i) parts
+    (Decides-and (bytes_eq x y) (same_items xs ys) (bytes_eq-Decides x y) (items_decide xs ys))
+  where
+    parts : x ∷ xs ≡ y ∷ ys → (x ≡ y) × (xs ≡ ys)
+    parts e = (cc, cc)
+
+-- where a test is so, another
+when : {P : Type 0} (a b : Bool) → Decides b P → Decides (not a || b) (a ≡ true → P)
+when true b d = (λ e h. d.0 e, λ f. d.1 (f refl))
+when false b d = (λ e h. cc, λ f. refl)
+
+filled_decides : (items : List (List ℕ)) → Decides (is_filled items) (items ≡ [] → ⊥)
+filled_decides [] = (λ e. absurd (false≢true e), λ h. absurd (h refl))
+filled_decides (x ∷ items) = (λ e k. no_items k, λ h. refl)
+  where
+    no_items : x ∷ items ≡ [] → ⊥
+    no_items k = cc
+
+shows_decides : (v : Verifier) (items : List (List ℕ)) → Decides (shows_a_key v items) (ShowsKey v items)
+shows_decides v [] = (λ e. absurd (false≢true e), λ h. cc)
+shows_decides v (x ∷ []) = (λ e. absurd (false≢true e), λ h. let k = h.2 in cc)
+shows_decides v (x ∷ (y ∷ [])) = (
+  λ e.
+      let p = and_parts (is_compressed y) (v.is_point y) e in
+      (x, y, refl, (compressed y).0 p.0, p.1),
+  λ h.
+      let same : y ≡ h.1 = second h.0 h.1 h.2 in
+      and_from (is_compressed y) (v.is_point y) (ap is_compressed same ∙ (compressed h.1).1 h.3) (ap v.is_point same ∙ h.4),
+)
+  where
+    second : (a b : List ℕ) → x ∷ y ∷ [] ≡ a ∷ b ∷ [] → y ≡ b
+    second a b e = cc
+shows_decides v (x ∷ (y ∷ (z ∷ items))) = (λ e. absurd (false≢true e), λ h. let k = h.2 in cc)
+
+taproot_decides : (items : List (List ℕ)) → Decides (may_be_taproot items) (MayBeTaproot items)
+taproot_decides [] = (λ e item k. cc, λ f. refl)
+taproot_decides (x ∷ []) = (λ e item k. subst abbrev_is (first item k) (d.0 e), λ f. d.1 (f x refl))
+  where
+    abbrev_is : List ℕ → Type 0
+    abbrev_is item = (length item ≡ 64) ⊎ ((length item ≡ 65) × (slice_index item 64 ≡ 1))
+
+    d : Decides (is_taproot_signature x) (abbrev_is x)
+    d =
+        Decides-or (length x == 64) (length x == 65 && slice_index x 64 == 1) (Decides-eqb (length x) 64)
+        (Decides-and (length x == 65) (slice_index x 64 == 1) (Decides-eqb (length x) 65) (Decides-eqb (slice_index x 64) 1))
+
+    first : (item : List ℕ) → x ∷ [] ≡ item ∷ [] → x ≡ item
+    first item e = cc
+taproot_decides (x ∷ (y ∷ items)) = (λ e item k. cc, λ f. refl)
+
+-- no script is of both kinds
+not_both : (script : List ℕ) → pays_to_key_hash script ≡ true → has_taproot_form script ≡ true → ⊥
+not_both [] h k = cc
+not_both (a ∷ []) h k = cc
+not_both (a ∷ (b ∷ program)) h k =
+    let p = (Decides-eqb a 0).0 (and_parts (a == 0) (b == 20 && length program == 20) h).0 in
+    let q = (Decides-eqb a 81).0 (and_parts (a == 81) (b == 32 && length program == 32) k).0 in
+    absurd (omega (arith, p, q))
+
+pub can_spend : (v : Verifier) (script : List ℕ) (items : List (List ℕ)) → Decides (has_witness_form v script items) (CanSpend v script items)
+can_spend v script items = (to, from)
+  where
+    by_kind : (a b : Bool) → pays_to_key_hash script ≡ a → has_taproot_form script ≡ b
+        → (if a then shows_a_key v items else if b then may_be_taproot items else true) ≡ true
+        → (pays_to_key_hash script ≡ true → ShowsKey v items) × (has_taproot_form script ≡ true → MayBeTaproot items)
+    by_kind true b e f h = (λ k. (shows_decides v items).0 h, λ k. absurd (not_both script e k))
+    by_kind false true e f h = (λ k. absurd (false≢true (sym e ∙ k)), λ k. (taproot_decides items).0 h)
+    by_kind false false e f h = (λ k. absurd (false≢true (sym e ∙ k)), λ k. absurd (false≢true (sym f ∙ k)))
+
+    of_kind : (a b : Bool) → pays_to_key_hash script ≡ a → has_taproot_form script ≡ b → CanSpend v script items
+        → (if a then shows_a_key v items else if b then may_be_taproot items else true) ≡ true
+    of_kind true b e f h = (shows_decides v items).1 (h.key_hash e)
+    of_kind false true e f h = (taproot_decides items).1 (h.taproot f)
+    of_kind false false e f h = refl
+
+    to : has_witness_form v script items ≡ true → CanSpend v script items
+    to h =
+        let p = and_parts (is_filled items) _ h in
+        let k = by_kind (pays_to_key_hash script) (has_taproot_form script) refl refl p.1 in
+        record { some = (filled_decides items).0 p.0; key_hash = k.0; taproot = k.1 }
+
+    from : CanSpend v script items → has_witness_form v script items ≡ true
+    from h =
+        and_from (is_filled items) _ ((filled_decides items).1 h.some)
+        (of_kind (pays_to_key_hash script) (has_taproot_form script) refl refl h)
+
+witness_taken : (v : Verifier) (digest script : List ℕ) (given : List Signed) (g : Signed) (taken : Taken)
+    → (take_witness v digest script given g ≡ taken) ↔ WitnessTaken v digest script given g taken
+witness_taken v digest script given g taken =
+    let verified = verifies_beside v digest script g.witness in
+    let good = when (pays_to_key_hash script) (v.is_signature (second_item g.witness) digest (first_item g.witness))
+    (is_true (v.is_signature (second_item g.witness) digest (first_item g.witness))) in
+    let last : Taken = witness_taken_once verified given g (find (λ earlier. same_place earlier g) given) in
+    if_so taken (not (has_witness_form v script g.witness)) (Err (reasons.Witness g.input))
+    (cond (not (has_strict_signature script g.witness)) (Err (reasons.Signature g.input)) last)
+    (Decides-not (has_witness_form v script g.witness) (can_spend v script g.witness)) (same taken (Err (reasons.Witness g.input)))
+    (if_so taken (not (has_strict_signature script g.witness)) (Err (reasons.Signature g.input)) last
+    (Decides-not (has_strict_signature script g.witness)
+    (when (pays_to_key_hash script) (is_strict (first_item g.witness)) (shape_exactly (first_item g.witness))))
+    (same taken (Err (reasons.Signature g.input)))
+    (if_any taken (IsInPlace g) (λ earlier. SecondTaken (VerifiesBeside v digest script g.witness) (earlier.witness ≡ g.witness) given g taken)
+    (λ earlier. same_place earlier g) (place_decides g) given (witness_taken_once verified given g)
+    (first_taken verified good given g taken)
+    (λ earlier. second_taken verified (same_items earlier.witness g.witness) good (items_decide earlier.witness g.witness) given g taken)))
 
 -- ---- an input
 
@@ -272,9 +400,9 @@ module _ (v : Verifier) (required : List Required) (tx : List ℕ) where
   moved : {R A : Type 0} (x y read : R) → x ≡ y → (x ≡ read) ↔ A → (y ≡ read) ↔ A
   moved x y read e f = (λ k. f.0 (e ∙ k), λ a. sym e ∙ f.1 a)
 
-  input_taken : (k : ℕ) (given : List Signed) (i : Input) (input : PsbtInput) (taken : Taken)
-      → (take_input v required tx k given i input ≡ taken) ↔ InputTaken v required tx k given i input taken
-  input_taken k given i input taken =
+  key_input_taken : (k : ℕ) (given : List Signed) (i : Input) (input : PsbtInput) (taken : Taken)
+      → (take_key_input v required tx k given i input ≡ taken) ↔ KeyInputTaken v required tx k given i input taken
+  key_input_taken k given i input taken =
       let last : Taken = cond (not (witness_fits i.spent.script input.witness)) (Err (reasons.Witness k))
       (take_signatures v required tx k given (input.partial ++ final_signature i.spent.script input.witness)) in
       if_so taken (not (spent_fits i.output input.spent)) (Err (reasons.Spent k))
@@ -288,6 +416,32 @@ module _ (v : Verifier) (required : List Required) (tx : List ℕ) where
       (final_of i.spent.script input.witness (witness_fits i.spent.script input.witness)) (by_final k given input)
       (final_found i.spent.script input.witness) (same taken (Err (reasons.Witness k)))
       (λ ps h. signatures_taken v required tx k given (input.partial ++ ps) taken))))
+
+  -- ---- of a wallet
+
+  final_taken : (k : ℕ) (given : List Signed) (i : Input) (w : Wallet) (o : Option (List (List ℕ))) (taken : Taken)
+      → (take_final v tx k given i w o ≡ taken) ↔ FinalTaken v tx k given i w o taken
+  final_taken k given i w None taken = same taken (Ok given)
+  final_taken k given i w (Some items) taken = witness_taken v i.digest w.script given (witnessed_by tx k items) taken
+
+  wallet_input_taken : (k : ℕ) (given : List Signed) (i : Input) (w : Wallet) (input : PsbtInput) (taken : Taken)
+      → (take_wallet_input v tx k given i w input ≡ taken) ↔ WalletInputTaken v tx k given i w input taken
+  wallet_input_taken k given i w input taken =
+      if_so taken (not (spent_fits i.output input.spent)) (Err (reasons.Spent k)) (take_final v tx k given i w input.witness)
+      (other_output i.output input.spent) (same taken (Err (reasons.Spent k))) (final_taken k given i w input.witness taken)
+
+  input_taken : (k : ℕ) (given : List Signed) (i : Input) (input : PsbtInput) (taken : Taken)
+      → (take_input v required tx k given i input ≡ taken) ↔ InputTaken v required tx k given i input taken
+  input_taken k given i input taken = by_wallet i.wallet
+    where
+      by_wallet : (o : Option Wallet)
+          → (elim o [
+            | None ↦ take_key_input v required tx k given i input
+            | Some w ↦ take_wallet_input v tx k given i w input
+          ] ≡ taken)
+          ↔ InputTakenBy v required tx k given i input taken o
+      by_wallet None = key_input_taken k given i input taken
+      by_wallet (Some w) = wallet_input_taken k given i w input taken
 
   inputs_taken : (k : ℕ) (given : List Signed) (is : List Input) (said : List PsbtInput) (taken : Taken)
       → (take_inputs v required tx k given is said ≡ taken) ↔ InputsTaken v required tx k given is said taken

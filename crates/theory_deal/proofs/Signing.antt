@@ -26,7 +26,8 @@ use Rattle.spec_tool.specs.Keyed.Listed.{Listed, deposit_signer, initial_signers
 use Rattle.spec_deal.specs.declared.finish.Verb.{Verb}
 use Rattle.spec_deal.specs.declared.finish.Verb.TheVariants as verbs
 use Rattle.spec_deal.specs.Given.{has}
-use Rattle.spec_deal.specs.Slots.{Slot, verb_if_asked, branch_verb, verb_of, input_slots, slots_from, listed_slots, slots}
+use Rattle.spec_deal.specs.Slots.{Slot, verb_if_asked, branch_verb, verb_of, input_slot, input_slots, slots_from, listed_slots, slots}
+use Rattle.spec_deal.specs.Wallets.{input_wallet}
 use Rattle.theory_calculus.specs.Members.{Is_in}
 use Rattle.theory_calculus.proofs.Members.{in_left, in_right, in_append, in_from_contains, contains_from_in}
 use Rattle.theory_calculus.proofs.Names.{bytes-true, bytes_refl}
@@ -46,7 +47,7 @@ map_at f [] k y e = cc
 map_at f (x ∷ xs) zero y e = (x, refl, sym (some_same e))
 map_at f (x ∷ xs) (suc k) y e = map_at f xs k y e
 
-at_map : {X Y : Type 0} (f : X → Y) (xs : List X) (k : ℕ) (x : X) → slice_get xs k ≡ Some x → slice_get (map f xs) k ≡ Some (f x)
+pub at_map : {X Y : Type 0} (f : X → Y) (xs : List X) (k : ℕ) (x : X) → slice_get xs k ≡ Some x → slice_get (map f xs) k ≡ Some (f x)
 at_map f [] k x e = cc
 at_map f (y ∷ xs) zero x e = ap (λ z. Some (f z)) (some_same e)
 at_map f (y ∷ xs) (suc k) x e = at_map f xs k x e
@@ -68,13 +69,13 @@ in_flat f (x ∷ xs) y h = elim (in_append y (f x) (flat_map f xs) h) [
   | inr b ↦ let r = in_flat f xs y b in (r.0, inr r.1, r.2)
 ]
 
-flat_in : {X Y : Type 0} (f : X → List Y) (xs : List X) (x : X) (y : Y) → Is_in x xs → Is_in y (f x) → Is_in y (flat_map f xs)
+pub flat_in : {X Y : Type 0} (f : X → List Y) (xs : List X) (x : X) (y : Y) → Is_in x xs → Is_in y (f x) → Is_in y (flat_map f xs)
 flat_in f [] x y h k = absurd h
 flat_in f (z ∷ xs) x y (inl e) k = in_left y (f z) (flat_map f xs) (subst (λ w. Is_in y (f w)) e k)
 flat_in f (z ∷ xs) x y (inr h) k = in_right y (f z) (flat_map f xs) (flat_in f xs x y h k)
 
 -- names are among others where they stand there
-among_in : (name : List ℕ) (ns : List (List ℕ)) → is_among name ns ≡ true → Is_in name ns
+pub among_in : (name : List ℕ) (ns : List (List ℕ)) → is_among name ns ≡ true → Is_in name ns
 among_in name [] h = cc
 among_in name (n ∷ ns) h = by_test (bytes_eq n name) refl h (among_in name ns)
   where
@@ -96,11 +97,7 @@ in_among name (n ∷ ns) (inr h) = by_test (bytes_eq n name) (in_among name ns h
 
 -- ---- the signatures of a transaction
 
-abbrev pub slot_of : Instance → Listed → ℕ → Spent → Label → Slot
-slot_of s l k spent label =
-    record { which = l.which; pending = l.pending; input = k; spent = spent; label = label; verb = verb_of s.advert l.which label }
-
-module _ (s : Instance) (l : Listed) where
+module _ (keys : Keys) (s : Instance) (l : Listed) where
   -- it is of one of the inputs from number k on
   pub record IsOf (k : ℕ) (spends : List Spent) (signers : List (List Label)) (slot : Slot) : Type 0 where
     pub j : ℕ
@@ -110,19 +107,19 @@ module _ (s : Instance) (l : Listed) where
     pub spends_it : slice_get spends j ≡ Some spent
     pub signed_by : slice_get signers j ≡ Some those
     pub one : Is_in label those
-    pub same : slot ≡ slot_of s l (k + j) spent label
+    pub same : slot ≡ input_slot keys s.advert l (k + j) spent label
 
   pub from_slots : (k : ℕ) (spends : List Spent) (signers : List (List Label)) (slot : Slot)
-      → Is_in slot (slots_from s.advert l k spends signers) → IsOf k spends signers slot
+      → Is_in slot (slots_from keys s.advert l k spends signers) → IsOf k spends signers slot
   from_slots k [] signers slot h = absurd h
   from_slots k (spent ∷ spends) [] slot h = absurd h
   from_slots k (spent ∷ spends) (those ∷ signers) slot h =
-      elim (in_append slot (input_slots s.advert l k spent those) (slots_from s.advert l (k + 1) spends signers) h) [
-        | inl a ↦ here (in_map (slot_of s l k spent) those slot a)
+      elim (in_append slot (input_slots keys s.advert l k spent those) (slots_from keys s.advert l (k + 1) spends signers) h) [
+        | inl a ↦ here (in_map (input_slot keys s.advert l k spent) those slot a)
         | inr b ↦ later (from_slots (k + 1) spends signers slot b)
       ]
     where
-      here : (label : Label) × Is_in label those × (slot ≡ slot_of s l k spent label)
+      here : (label : Label) × Is_in label those × (slot ≡ input_slot keys s.advert l k spent label)
           → IsOf k (spent ∷ spends) (those ∷ signers) slot
       here r =
           let z : k ≡ k + 0 = omega arith in
@@ -134,7 +131,7 @@ module _ (s : Instance) (l : Listed) where
             spends_it = refl;
             signed_by = refl;
             one = r.1;
-            same = subst (λ (n : ℕ). slot ≡ slot_of s l n spent r.0) z r.2;
+            same = subst (λ (n : ℕ). slot ≡ input_slot keys s.advert l n spent r.0) z r.2;
           }
 
       later : IsOf (k + 1) spends signers slot → IsOf k (spent ∷ spends) (those ∷ signers) slot
@@ -148,25 +145,25 @@ module _ (s : Instance) (l : Listed) where
             spends_it = r.spends_it;
             signed_by = r.signed_by;
             one = r.one;
-            same = subst (λ (n : ℕ). slot ≡ slot_of s l n r.spent r.label) z r.same;
+            same = subst (λ (n : ℕ). slot ≡ input_slot keys s.advert l n r.spent r.label) z r.same;
           }
 
   to_slots : (k : ℕ) (spends : List Spent) (signers : List (List Label)) (j : ℕ) (spent : Spent) (those : List Label) (label : Label)
       → slice_get spends j ≡ Some spent → slice_get signers j ≡ Some those → Is_in label those
-      → Is_in (slot_of s l (k + j) spent label) (slots_from s.advert l k spends signers)
+      → Is_in (input_slot keys s.advert l (k + j) spent label) (slots_from keys s.advert l k spends signers)
   to_slots k [] signers j spent those label a b c = cc
   to_slots k (x ∷ spends) [] j spent those label a b c = cc
   to_slots k (x ∷ spends) (y ∷ signers) zero spent those label a b c =
       let z : k ≡ k + 0 = omega arith in
-      let here : Is_in (slot_of s l k spent label) (input_slots s.advert l k x y) =
-      subst (λ (w : Spent). Is_in (slot_of s l k w label) (input_slots s.advert l k x y)) (some_same a)
-      (map_in (slot_of s l k x) y label (subst (λ (w : List Label). Is_in label w) (sym (some_same b)) c)) in
-      subst (λ (n : ℕ). Is_in (slot_of s l n spent label) (slots_from s.advert l k (x ∷ spends) (y ∷ signers))) z
-      (in_left (slot_of s l k spent label) (input_slots s.advert l k x y) (slots_from s.advert l (k + 1) spends signers) here)
+      let here : Is_in (input_slot keys s.advert l k spent label) (input_slots keys s.advert l k x y) =
+      subst (λ (w : Spent). Is_in (input_slot keys s.advert l k w label) (input_slots keys s.advert l k x y)) (some_same a)
+      (map_in (input_slot keys s.advert l k x) y label (subst (λ (w : List Label). Is_in label w) (sym (some_same b)) c)) in
+      subst (λ (n : ℕ). Is_in (input_slot keys s.advert l n spent label) (slots_from keys s.advert l k (x ∷ spends) (y ∷ signers))) z
+      (in_left (input_slot keys s.advert l k spent label) (input_slots keys s.advert l k x y) (slots_from keys s.advert l (k + 1) spends signers) here)
   to_slots k (x ∷ spends) (y ∷ signers) (suc j) spent those label a b c =
       let z : k + 1 + j ≡ k + suc j = omega arith in
-      subst (λ (n : ℕ). Is_in (slot_of s l n spent label) (slots_from s.advert l k (x ∷ spends) (y ∷ signers))) z
-      (in_right (slot_of s l (k + 1 + j) spent label) (input_slots s.advert l k x y) (slots_from s.advert l (k + 1) spends signers)
+      subst (λ (n : ℕ). Is_in (input_slot keys s.advert l n spent label) (slots_from keys s.advert l k (x ∷ spends) (y ∷ signers))) z
+      (in_right (input_slot keys s.advert l (k + 1 + j) spent label) (input_slots keys s.advert l k x y) (slots_from keys s.advert l (k + 1) spends signers)
       (to_slots (k + 1) spends signers j spent those label a b c))
 
 -- ---- who signs
@@ -306,23 +303,23 @@ module _ (hash : List ℕ → List ℕ) (keys : Keys) (s : Instance) where
       → option_map (λ (x : Listed). x.pending) (listed_at hash keys s l.which) ≡ Some l.pending
       → ((k : ℕ) (those : List Label) (label : Label) → slice_get l.signers k ≡ Some those → Is_in label those
       → Signs s l.which k label (verb_of s.advert l.which label))
-      → Is_in slot (listed_slots s.advert l) → IsAsked hash keys s slot
+      → Is_in slot (listed_slots keys s.advert l) → IsAsked hash keys s slot
   asked_one l slot there signs h =
-      let r = from_slots s l 0 l.pending.spends l.signers slot h in
+      let r = from_slots keys s l 0 l.pending.spends l.signers slot h in
       let z : 0 + r.j ≡ r.j = omega arith in
       subst (IsAsked hash keys s) (sym r.same)
-      (subst (λ (n : ℕ). IsAsked hash keys s (slot_of s l n r.spent r.label)) (sym z)
-      (record { there = there; spends = r.spends_it; signs = signs r.j r.those r.label r.signed_by r.one }))
+      (subst (λ (n : ℕ). IsAsked hash keys s (input_slot keys s.advert l n r.spent r.label)) (sym z)
+      (record { there = there; spends = r.spends_it; signs = signs r.j r.those r.label r.signed_by r.one; brought = refl }))
 
   asked_paths : (es : List (List PathStep × Unsigned)) (slot : Slot) → AreRight (unsigned_at hash keys s) es
-      → Is_in slot (flat_map (listed_slots s.advert) (map (λ p. path_listed s (p.0) (p.1)) es)) → IsAsked hash keys s slot
+      → Is_in slot (flat_map (listed_slots keys s.advert) (map (λ p. path_listed s (p.0) (p.1)) es)) → IsAsked hash keys s slot
   asked_paths [] slot right h = absurd h
   asked_paths (e ∷ es) slot right h =
       let l = path_listed s (e.0) (e.1) in
       let there : option_map (λ (x : Listed). x.pending) (listed_at hash keys s (names.At (e.0))) ≡ Some (e.1) =
       ap (λ (o : Option Unsigned). option_map (λ (x : Listed). x.pending) (option_map (path_listed s (e.0)) o)) right.0 in
-      elim (in_append slot (listed_slots s.advert l)
-      (flat_map (listed_slots s.advert) (map (λ p. path_listed s (p.0) (p.1)) es)) h) [
+      elim (in_append slot (listed_slots keys s.advert l)
+      (flat_map (listed_slots keys s.advert) (map (λ p. path_listed s (p.0) (p.1)) es)) h) [
         | inl a ↦ asked_one l slot there (path_by s (e.0)) a
         | inr b ↦ asked_paths es slot right.1 b
       ]
@@ -330,8 +327,8 @@ module _ (hash : List ℕ → List ℕ) (keys : Keys) (s : Instance) where
   asked : (slot : Slot) → Is_in slot (slots hash keys s) → IsAsked hash keys s slot
   asked slot h =
       let l = initial_listed hash keys s in
-      elim (in_append slot (listed_slots s.advert l)
-      (flat_map (listed_slots s.advert) (map (λ p. path_listed s (p.0) (p.1)) (path_transactions hash keys s))) h) [
+      elim (in_append slot (listed_slots keys s.advert l)
+      (flat_map (listed_slots keys s.advert) (map (λ p. path_listed s (p.0) (p.1)) (path_transactions hash keys s))) h) [
         | inl a ↦ asked_one l slot refl (starts_by s) a
         | inr b ↦ asked_paths (path_transactions hash keys s) slot (transactions_right hash keys s) b
       ]
@@ -365,13 +362,24 @@ module _ (hash : List ℕ → List ℕ) (keys : Keys) (s : Instance) where
       let z : 0 + slot.input ≡ slot.input = omega arith in
       let spends : slice_get l.pending.spends slot.input ≡ Some slot.spent =
       subst (λ (x : Unsigned). slice_get x.spends slot.input ≡ Some slot.spent) (sym d.2) h.spends in
-      let one = to_slots s l 0 l.pending.spends l.signers slot.input slot.spent a.those slot.label spends a.signed_by a.one in
+      let one = to_slots keys s l 0 l.pending.spends l.signers slot.input slot.spent a.those slot.label spends a.signed_by a.one in
       let verb : verb_of s.advert l.which slot.label ≡ slot.verb =
       ap (λ (w : Which). verb_of s.advert w slot.label) r.1 ∙ sym a.is_verb in
-      let same : slot_of s l (0 + slot.input) slot.spent slot.label ≡ slot =
-      (λ i. record { which = r.1 i; pending = d.2 i; input = z i; spent = slot.spent; label = slot.label; verb = verb i }) in
-      flat_in (listed_slots s.advert) (listed hash keys s) l slot (listed_in hash keys s slot.which l d.1)
-      (subst (λ (x : Slot). Is_in x (listed_slots s.advert l)) same one)
+      let wallet : input_wallet keys s.advert l.which (0 + slot.input) ≡ slot.wallet =
+      (λ i. input_wallet keys s.advert (r.1 i) (z i)) ∙ sym h.brought in
+      let same : input_slot keys s.advert l (0 + slot.input) slot.spent slot.label ≡ slot =
+      (λ i.
+      record {
+        which = r.1 i;
+        pending = d.2 i;
+        input = z i;
+        spent = slot.spent;
+        label = slot.label;
+        verb = verb i;
+        wallet = wallet i;
+      }) in
+      flat_in (listed_slots keys s.advert) (listed hash keys s) l slot (listed_in hash keys s slot.which l d.1)
+      (subst (λ (x : Slot). Is_in x (listed_slots keys s.advert l)) same one)
 
 pub asks_exactly : AsksExactly
 asks_exactly hash keys s slot = (

@@ -19,16 +19,16 @@ use Rattle.spec_tool.specs.declared.which.Which.{Which}
 use Rattle.spec_tool.specs.declared.which.Which.TheVariants as names
 use Rattle.spec_tool.specs.Keyed.Listed.{Listed, deposit_signer, initial_signers, branch_signers, path_signers, initial_listed, path_listed, listed}
 use Rattle.spec_deal.specs.Finished.{label_party}
-use Rattle.spec_deal.specs.Slots.{Slot, input_slots, slots_from, listed_slots, slots}
+use Rattle.spec_deal.specs.Slots.{Slot, input_slot, input_slots, slots_from, listed_slots, slots}
 use Rattle.theory_calculus.specs.Members.{Is_in}
 use Rattle.theory_psbt.proofs.KeysDiffer.{participants_differ}
 use Rattle.theory_deal.proofs.Ascending.{ascend_then, ascend_append, ascend_map, ascend_back, ascend_flat, standing}
 use Rattle.theory_deal.proofs.Ascending.{AreApart, precedes_apart, paths_apart, names_apart}
-use Rattle.theory_deal.proofs.Signing.{in_map, slot_of, from_slots}
+use Rattle.theory_deal.proofs.Signing.{in_map, from_slots}
 use Rattle.theory_deal.specs.SigningOrder.{Precedes, ComesBefore, IsAscending, IsSameSignature, SignaturesInOrder}
 use Rattle.theory_deal.specs.Transactions.{all_names, TransactionsOfDeals}
 
-module _ (s : Instance) where
+module _ (keys : Keys) (s : Instance) where
   -- one label's party comes before another's
   abbrev Before : Label → Label → Type 0
   Before a b = Precedes (people s) (label_party a) (label_party b)
@@ -59,30 +59,30 @@ module _ (s : Instance) where
 
   module _ (l : Listed) where
     input_ascend : (k : ℕ) (spent : Spent) (those : List Label) → IsAscending Before those
-        → IsAscending (ComesBefore s) (input_slots s.advert l k spent those)
+        → IsAscending (ComesBefore s) (input_slots keys s.advert l k spent those)
     input_ascend k spent those h =
-        ascend_map (ComesBefore s) (slot_of s l k spent) those
-        (ascend_then Before (λ a b. ComesBefore s (slot_of s l k spent a) (slot_of s l k spent b)) those
+        ascend_map (ComesBefore s) (input_slot keys s.advert l k spent) those
+        (ascend_then Before (λ a b. ComesBefore s (input_slot keys s.advert l k spent a) (input_slot keys s.advert l k spent b)) those
         (λ a b p. inr (inr (refl, refl, p))) h)
 
     inputs_ascend : (k : ℕ) (spends : List Spent) (signers : List (List Label)) → AllAscend signers
-        → IsAscending (ComesBefore s) (slots_from s.advert l k spends signers)
+        → IsAscending (ComesBefore s) (slots_from keys s.advert l k spends signers)
     inputs_ascend k [] signers h = tt
     inputs_ascend k (spent ∷ spends) [] h = tt
     inputs_ascend k (spent ∷ spends) (those ∷ signers) h =
-        ascend_append (ComesBefore s) (input_slots s.advert l k spent those) (slots_from s.advert l (k + 1) spends signers)
+        ascend_append (ComesBefore s) (input_slots keys s.advert l k spent those) (slots_from keys s.advert l (k + 1) spends signers)
         (input_ascend k spent those (h those (inl refl)))
         (inputs_ascend (k + 1) spends signers (λ x i. h x (inr i)))
         (λ u v a b.
-        let p = in_map (slot_of s l k spent) those u a in
-        let q = from_slots s l (k + 1) spends signers v b in
+        let p = in_map (input_slot keys s.advert l k spent) those u a in
+        let q = from_slots keys s l (k + 1) spends signers v b in
         let less : k < k + 1 + q.j = omega arith in
         subst (λ (x : Slot). ComesBefore s x v) (sym p.2)
-        (subst (ComesBefore s (slot_of s l k spent p.0)) (sym q.same) (inr (inl (refl, less)))))
+        (subst (ComesBefore s (input_slot keys s.advert l k spent p.0)) (sym q.same) (inr (inl (refl, less)))))
 
   -- its signatures are of this transaction
-  which_of : (l : Listed) (slot : Slot) → Is_in slot (listed_slots s.advert l) → slot.which ≡ l.which
-  which_of l slot h = ap (λ (x : Slot). x.which) (from_slots s l 0 l.pending.spends l.signers slot h).same
+  which_of : (l : Listed) (slot : Slot) → Is_in slot (listed_slots keys s.advert l) → slot.which ≡ l.which
+  which_of l slot h = ap (λ (x : Slot). x.which) (from_slots keys s l 0 l.pending.spends l.signers slot h).same
 
   -- ---- names without repetition
 
@@ -95,29 +95,29 @@ module _ (s : Instance) where
       (ascend_then (λ (a b : List PathStep). a ≡ b → ⊥) (λ a b. names.At a ≡ names.At b → ⊥) paths (λ a b f e. f cc) h)
 
 module _ (hash : List ℕ → List ℕ) (keys : Keys) (s : Instance) where
-  each_ascends : (l : Listed) → Is_in l (listed hash keys s) → IsAscending (ComesBefore s) (listed_slots s.advert l)
+  each_ascends : (l : Listed) → Is_in l (listed hash keys s) → IsAscending (ComesBefore s) (listed_slots keys s.advert l)
   each_ascends l (inl e) =
-      subst (λ (x : Listed). IsAscending (ComesBefore s) (listed_slots s.advert x)) (sym e)
-      (inputs_ascend s (initial_listed hash keys s) 0 (initial_listed hash keys s).pending.spends (initial_signers s.advert)
-      (initial_ascend s))
+      subst (λ (x : Listed). IsAscending (ComesBefore s) (listed_slots keys s.advert x)) (sym e)
+      (inputs_ascend keys s (initial_listed hash keys s) 0 (initial_listed hash keys s).pending.spends (initial_signers s.advert)
+      (initial_ascend keys s))
   each_ascends l (inr h) =
       let r = in_map (λ (p : List PathStep × Unsigned). path_listed s (p.0) (p.1)) (path_transactions hash keys s) l h in
-      subst (λ (x : Listed). IsAscending (ComesBefore s) (listed_slots s.advert x)) (sym r.2)
-      (inputs_ascend s (path_listed s ((r.0).0) ((r.0).1)) 0 ((r.0).1).spends (path_signers s ((r.0).0))
-      (path_ascend s ((r.0).0)))
+      subst (λ (x : Listed). IsAscending (ComesBefore s) (listed_slots keys s.advert x)) (sym r.2)
+      (inputs_ascend keys s (path_listed s ((r.0).0) ((r.0).1)) 0 ((r.0).1).spends (path_signers s ((r.0).0))
+      (path_ascend keys s ((r.0).0)))
 
   all_ascend : map (λ (l : Listed). l.which) (listed hash keys s) ≡ all_names s.advert.root
       → IsAscending (ComesBefore s) (slots hash keys s)
   all_ascend named =
       let by_name : Listed → Listed → Type 0 = λ a b. Precedes (all_names s.advert.root) a.which b.which in
-      ascend_flat by_name (ComesBefore s) (listed_slots s.advert) (listed hash keys s)
+      ascend_flat by_name (ComesBefore s) (listed_slots keys s.advert) (listed hash keys s)
       (ascend_back (Precedes (all_names s.advert.root)) (λ (l : Listed). l.which) (listed hash keys s)
       (subst (λ (ns : List Which). IsAscending (Precedes ns) (map (λ (l : Listed). l.which) (listed hash keys s))) named
       (standing (map (λ (l : Listed). l.which) (listed hash keys s)))))
       each_ascends
       (λ a b u v p i j.
-      inl (subst (λ (w : Which). Precedes (all_names s.advert.root) w v.which) (sym (which_of s a u i))
-      (subst (Precedes (all_names s.advert.root) a.which) (sym (which_of s b v j)) p)))
+      inl (subst (λ (w : Which). Precedes (all_names s.advert.root) w v.which) (sym (which_of keys s a u i))
+      (subst (Precedes (all_names s.advert.root) a.which) (sym (which_of keys s b v j)) p)))
 
   never_same : AreApart (all_names s.advert.root) → (x y : Slot) → ComesBefore s x y → IsSameSignature x y → ⊥
   never_same apart x y (inl p) same = precedes_apart (all_names s.advert.root) x.which y.which apart p same.which
@@ -131,7 +131,7 @@ signatures_in_order transactions hash keys s =
     let are = transactions hash keys s in
     let paths = branch_paths s.advert.root in
     let apart : AreApart (all_names s.advert.root) =
-    (init_or_path s paths, names_differ s paths (paths_apart paths are.once)) in
+    (init_or_path keys s paths, names_differ keys s paths (paths_apart paths are.once)) in
     let ascending = all_ascend hash keys s are.named in
     record {
       ascending = ascending;

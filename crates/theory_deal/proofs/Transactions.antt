@@ -1,5 +1,6 @@
 -- The transactions of a deal are those of its contract, in the order of the text, and keep its money.
 use Rattle.std.proofs.Common.{◌≡◌, ℕ, List, [], ◌∷◌, ◌++◌, map, Option, Some, None, refl, sym, ap, subst, ◌∙◌, inl, inr}
+use Rattle.std.specs.Prelude.{filter}
 use Rattle.std.specs.List.{flat_map}
 use Rattle.std.specs.Option.{option_map}
 use Rattle.spec_terms.specs.Faults.{IsWellFormed}
@@ -17,6 +18,7 @@ use Rattle.spec_compiler.specs.Keyed.ByPath.{unsigned_at}
 use Rattle.spec_tool.specs.declared.which.Which.{Which}
 use Rattle.spec_tool.specs.declared.which.Which.TheVariants as names
 use Rattle.spec_tool.specs.Keyed.Listed.{Listed, path_listed, listed, listed_at}
+use Rattle.spec_deal.specs.Used.{uses_key}
 use Rattle.theory_calculus.specs.Members.{Is_in}
 use Rattle.theory_calculus.proofs.Members.{in_from_contains, contains_from_in}
 use Rattle.theory_script.specs.Keyed.Listed.{PathsInOrder}
@@ -92,5 +94,5 @@ deals_hash hash key_of own s =
     let keys = given key_of own in
     let rest = map (λ p. p.1) (scripts hash keys s) ++ (unsigned_strings hash (initial_unsigned hash keys s)
     ++ flat_map (λ p. unsigned_strings hash p.1) (path_transactions hash keys s)) in
-    ap (λ (x : List (List ℕ)). map (party_script hash keys) (people s) ++ (x ++ rest))
+    ap (λ (x : List (List ℕ)). map (party_script hash keys) (filter (uses_key keys s.advert) (people s)) ++ (x ++ rest))
     (sym (none_hashed key_of own s (path_transactions hash keys s)))

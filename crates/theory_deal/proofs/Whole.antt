@@ -14,22 +14,22 @@ use Rattle.spec_deal.specs.declared.signed.Signed.{Signed}
 use Rattle.spec_deal.specs.declared.finish.FinishRefusal.TheVariants as refusals
 use Rattle.spec_deal.specs.Answers.{unless_refused}
 use Rattle.spec_deal.specs.Finished.{witnesses, finished, unendorsed_refusal, endorsement_refusal, signature_refusal, which_branch, secret_refusal}
-use Rattle.spec_deal.specs.Finished.{predicate_refusal, finish_refusal}
+use Rattle.spec_deal.specs.Finished.{unsigned_refusal, predicate_refusal, finish_refusal}
 use Rattle.spec_deal.specs.Given.{has, endorsements, may_start, first_unendorsed}
 use Rattle.spec_deal.specs.declared.entry.Shown.{Shown}
 use Rattle.spec_deal.specs.SecretFile.{string_for}
 use Rattle.spec_deal.specs.Setting.{deal_keys, deal_instance}
-use Rattle.spec_deal.specs.Slots.{Slot, listed_slots}
-use Rattle.theory_deal.specs.Finished.{Oracle, accepts, oracle_by, do_fit, AllOpen}
+use Rattle.spec_deal.specs.Slots.{listed_slots}
+use Rattle.theory_deal.specs.Finished.{Oracle, accepts, oracle_by, do_fit, AllInputsOpen}
 use Rattle.theory_deal.specs.Whole.{IsComplete, FinishesExactly, AreRead, FinishTheorem}
-use Rattle.theory_deal.proofs.FinishedOpens.{first_none, second_none, map_none, finished_opens}
-use Rattle.theory_deal.proofs.OfKeys.{deal_of_keys}
+use Rattle.theory_deal.proofs.FinishedOpens.{first_none, second_none, map_none, inputs_opened, all_open}
+use Rattle.theory_deal.proofs.KeysGiven.{keys_are_given}
 use Rattle.theory_deal.proofs.Listed.{all_pass, none_fails}
 use Rattle.theory_deal.proofs.Planned.{finished_is_planned}
 use Rattle.theory_deal.proofs.ReadDeals.{deals_are_sized}
 use Rattle.theory_deal.proofs.ReadSecrets.{secrets_fit}
 use Rattle.theory_deal.proofs.ReadSignatures.{signatures_are_shaped}
-use Rattle.theory_deal.proofs.Verified.{accepts_read, agrees_accepts}
+use Rattle.theory_deal.proofs.Verified.{accepts_read, agrees_accepts, keys_agree}
 
 both_none : {R : Type 0} (a b : Option R) → a ≡ None → b ≡ None → or_else a b ≡ None
 both_none None b h k = k
@@ -57,9 +57,8 @@ module _ (hash : List ℕ → List ℕ) (keys : Keys) (s : Instance) (given : Li
         record {
           endorsed = endorsed_if l.which (first_none (endorsement_refusal hash keys s given l.which) _ h);
           signed =
-              all_pass (has hash keys given) (listed_slots s.advert l)
-              (map_none (λ (slot : Slot). refusals.Signature slot.input slot.label) _ (first_none
-              (signature_refusal hash keys s given l) _ a));
+              all_pass (has hash keys given) (listed_slots keys s.advert l)
+              (map_none unsigned_refusal _ (first_none (signature_refusal hash keys s given l) _ a));
           shown =
               all_pass (λ name. is_some (string_for strings name)) (revealed_by (which_branch s l.which))
               (map_none refusals.Secret _ (first_none (secret_refusal strings (which_branch s l.which)) _ b));
@@ -70,8 +69,8 @@ module _ (hash : List ℕ → List ℕ) (keys : Keys) (s : Instance) (given : Li
     if_complete c =
         both_none (endorsement_refusal hash keys s given l.which) _ (if_endorsed l.which c.endorsed)
         (both_none (signature_refusal hash keys s given l) _
-        (ap (option_map (λ (slot : Slot). refusals.Signature slot.input slot.label))
-        (none_fails (has hash keys given) (listed_slots s.advert l) c.signed))
+        (ap (option_map unsigned_refusal)
+        (none_fails (has hash keys given) (listed_slots keys s.advert l) c.signed))
         (both_none (secret_refusal strings (which_branch s l.which)) (predicate_refusal strings (which_branch s l.which))
         (ap (option_map refusals.Secret)
         (none_fails (λ name. is_some (string_for strings name)) (revealed_by (which_branch s l.which)) c.shown))
@@ -92,17 +91,23 @@ finish_theorem v hash advert deal_text deal file given strings which l checked d
     let sized = deals_are_sized v hash advert deal_text deal deal_read in
     let shaped = signatures_are_shaped v hash keys s file given given_read in
     let complete = complete_if hash keys s given strings l refusal in
-    let opens : (oracle : Oracle) → accepts hash keys s given oracle l ≡ true
-    → AllOpen hash oracle 0 l.pending.spends (witnesses hash keys s given strings l l.which) =
+    let open_all : (oracle : Oracle) → accepts hash keys s given oracle l ≡ true
+    → AllInputsOpen hash keys s given oracle l (witnesses hash keys s given strings l l.which) =
     λ oracle accepted.
-    finished_opens hash keys s given strings which l oracle sized.are_keys (deal_of_keys deal) (sized.applied checked) shaped.short
+    inputs_opened hash keys s given strings which l oracle sized.are_keys (sized.applied checked) shaped.short
     (strings_fit hash keys s strings strings_read) there refusal accepted in
-    let accepted = accepts_read v hash keys s given file which l given_read there complete.signed in
+    let ws = witnesses hash keys s given strings l l.which in
+    let accepted = accepts_read v hash keys s given file which l (inr (keys_are_given v hash advert deal_text deal checked deal_read)) given_read there
+    complete.signed in
     record {
       printed = ap (λ r. unless_refused r (spelling (finished hash keys s given strings l))) refusal;
       planned = finished_is_planned hash keys s given strings l;
-      opens = opens;
-      verified = opens (oracle_by v hash l) accepted;
-      agreed = λ oracle agrees. opens oracle (agrees_accepts v hash keys s given l oracle agrees accepted);
+      inputs_open = open_all;
+      inputs_verified = open_all (oracle_by v hash l) accepted;
+      inputs_agreed = λ oracle agrees. open_all oracle (keys_agree v hash keys s given l oracle agrees accepted);
+      opens = λ of_keys oracle accepted. all_open hash keys s given oracle l ws of_keys (open_all oracle accepted);
+      verified = λ of_keys. all_open hash keys s given (oracle_by v hash l) l ws of_keys (open_all (oracle_by v hash l) accepted);
+      agreed = λ of_keys oracle agrees.
+          all_open hash keys s given oracle l ws of_keys (open_all oracle (agrees_accepts v hash keys s given l oracle agrees accepted));
       endorsed = complete.endorsed;
     }

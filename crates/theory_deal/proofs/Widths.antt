@@ -1,7 +1,9 @@
 pub mod DealBytes
+pub mod Light
 pub mod Outputs
 pub mod Places
 pub mod ScriptBytes
 pub mod SecretBytes
 pub mod SignatureBytes
 pub mod Witnesses
+pub mod Weighed

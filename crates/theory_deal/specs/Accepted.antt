@@ -1,6 +1,6 @@
 -- The ledger's verdict on a transaction, with any oracle of signatures in the place of the book of ideal ones; and what is claimed of it:
 -- it accepts each finished transaction where the spent outputs are live and the lock is reached.
-use Rattle.std.specs.Prelude.{◌≡◌, ℕ, ◌+◌, ◌<◌, ◌≤◌, List, [], ◌∷◌, length, map, Bool, true, not, ◌&&◌, ◌==◌, Option, Some, None, Ok, slice_get}
+use Rattle.std.specs.Prelude.{◌≡◌, ℕ, ◌+◌, ◌<◌, ◌≤◌, List, [], ◌∷◌, length, map, Bool, true, false, not, ◌&&◌, ◌==◌, Option, Some, None, is_some, Ok, slice_get}
 use Rattle.std.specs.List.{Contains, list_any}
 use Rattle.std.specs.Option.{option_map, option_map_or, option_and_then}
 use Rattle.std.specs.Str.{bytes_eq}
@@ -27,6 +27,7 @@ use Rattle.spec_bitcoin.specs.Verdict.{spent_value, spent_number, numbers_from, 
 use Rattle.spec_compiler.specs.Keyed.Keys.{Keys}
 use Rattle.spec_compiler.specs.Keyed.Instance.{Instance}
 use Rattle.spec_compiler.specs.declared.unsigned.Spent.{Spent}
+use Rattle.spec_compiler.specs.Keyed.Statements.{AreKeyDeposits}
 use Rattle.spec_compiler.specs.Keyed.Transactions.{pays}
 use Rattle.spec_tool.specs.declared.which.Which.{Which}
 use Rattle.spec_tool.specs.Keyed.Listed.{Listed, listed_at}
@@ -39,7 +40,9 @@ use Rattle.spec_deal.specs.Finished.{finished, finish_refusal}
 use Rattle.spec_deal.specs.Setting.{deal_keys, deal_instance}
 use Rattle.spec_deal.specs.SignatureFile.{read_signatures}
 use Rattle.spec_deal.specs.Verifier.{Verifier}
-use Rattle.theory_deal.specs.Finished.{Oracle, accepts, Agrees}
+use Rattle.spec_deal.specs.declared.transaction.Wallet.{Wallet}
+use Rattle.spec_deal.specs.Wallets.{input_wallet, spent_output}
+use Rattle.theory_deal.specs.Finished.{Oracle, accepts, Agrees, KeysAgree}
 use Rattle.theory_deal.specs.Whole.{AreRead}
 
 -- ---- a verdict by an oracle
@@ -72,7 +75,7 @@ judged_refusal hash oracle tip live tx =
 abbrev pub judged_verdict : (List ℕ → List ℕ) → Oracle → Chain → Tx → Verdict
 judged_verdict hash oracle chain tx = verdict_for chain tx (judged_refusal hash oracle chain.tip chain.live tx)
 
--- ---- judges by digest
+-- ---- oracles by digest
 
 -- what a ledger asks a signature of input k to be of, by the output that the input spends and the script that its witness shows
 abbrev pub digest_on : (List ℕ → List ℕ) → List Entry → Tx → ℕ → List ℕ
@@ -94,37 +97,126 @@ abbrev pub verdict_by : Verifier → (List ℕ → List ℕ) → Chain → Tx �
 verdict_by v hash chain tx =
     judged_verdict hash (oracle_on (λ digest signature key. v.is_signature key digest signature) hash chain.live tx) chain tx
 
--- ---- finished transactions
-
 -- the output that is live at a place
 abbrev pub output_at : List Entry → OutPoint → Option TxOut
 output_at live place = option_map (λ p. p.1) (at_place live place)
 
--- where each of these is spent, what lies is the plan's: this value, for whoever shows this script
-abbrev pub AreLive : (List ℕ → List ℕ) → List Entry → List Spent → Type 0
-AreLive hash live spends = (x : Spent) → Contains spends x → output_at live x.outpoint ≡ Some (pays hash x.script x.value)
+-- ---- with the inputs of wallets
+
+-- whether consensus takes the witness of the input of this number, of a transaction whose inputs spend these outputs
+abbrev pub Consensus : Type 0
+Consensus = Tx → List (Option TxOut) → ℕ → Bool
+
+abbrev pub spent_outputs : List Entry → Tx → List (Option TxOut)
+spent_outputs live tx = map (λ (input : TxIn). output_at live input.prev) tx.inputs
+
+-- what checks the inputs of a transaction: of signatures by keys of a deal an oracle, of the inputs that wallets sign consensus
+pub record InputCheck : Type 0 where
+  pub oracle : Oracle
+  pub takes : Consensus
+  pub of_wallet : ℕ → Bool
+
+-- the conditions on input k, which a wallet signs, in their order: nothing is known of its script
+abbrev pub wallet_row : Bool → ℕ → TxIn → List (Bool × Refusal)
+wallet_row taken k input = (not (length input.script_sig == 0), ScriptSigNotEmpty k) ∷ (not taken, ScriptFalse k) ∷ []
+
+abbrev pub row_by : (List ℕ → List ℕ) → InputCheck → List Entry → Tx → Bool → ℕ → TxIn → TxOut → List (Bool × Refusal)
+row_by hash input_check live tx false k input output = judged_row hash input_check.oracle k input output
+row_by hash input_check live tx true k input output = wallet_row (input_check.takes tx (spent_outputs live tx) k) k input
+
+-- the refusal of input k; none where its output isn't live
+abbrev pub input_by : (List ℕ → List ℕ) → InputCheck → List Entry → Tx → ℕ → TxIn → Option Refusal
+input_by hash input_check live tx k input =
+    option_and_then (λ p. first_reason (row_by hash input_check live tx (input_check.of_wallet k) k input p.1)) (at_place live input.prev)
+
+-- the first refusal of an input, counted from k
+abbrev pub inputs_by : (List ℕ → List ℕ) → InputCheck → List Entry → Tx → ℕ → List TxIn → Option Refusal
+inputs_by hash input_check live tx k [] = None
+inputs_by hash input_check live tx k (i ∷ is) = or_else (input_by hash input_check live tx k i) (inputs_by hash input_check live tx (k + 1) is)
+
+-- the verdict of these checks
+abbrev pub verdict_of : (List ℕ → List ℕ) → InputCheck → Chain → Tx → Verdict
+verdict_of hash input_check chain tx =
+    verdict_for chain tx
+    (or_else (first_reason (whole_row chain.tip chain.live tx)) (inputs_by hash input_check chain.live tx 0 tx.inputs))
+
+-- ---- finished transactions
 
 -- accepted, with the birth numbers of what is spent and of what is made
 abbrev pub accepted_on : Chain → Tx → Verdict
 accepted_on chain tx = Accepted (map (spent_number chain.live) tx.inputs) (numbers_from chain.births tx.outputs)
 
--- on each ledger on which what it spends is live, and at each height from its lock on, the verdict accepts it
+-- the wallets that sign the inputs of a transaction of a deal
+abbrev pub wallets_of : Keys → Instance → Listed → ℕ → Option Wallet
+wallets_of keys s l k = input_wallet keys s.advert l.which k
+
+abbrev pub input_checks : Keys → Instance → Listed → Oracle → Consensus → InputCheck
+input_checks keys s l oracle takes =
+    record { oracle = oracle; takes = takes; of_wallet = λ k. is_some (wallets_of keys s l k) }
+
+-- where each of its inputs spends, what lies is the plan's: this value, at the wallet's script, or for whoever shows this script
+abbrev pub AllLive : (List ℕ → List ℕ) → List Entry → (ℕ → Option Wallet) → List Spent → Type 0
+AllLive hash live wallet spends = (k : ℕ) (x : Spent) → slice_get spends k ≡ Some x
+    → output_at live x.outpoint ≡ Some (spent_output hash (wallet k) x)
+
+-- consensus takes the witness of each input that a wallet signs
+abbrev pub AllTaken : Consensus → (ℕ → Option Wallet) → List Entry → Tx → Type 0
+AllTaken takes wallet live tx = (k : ℕ) (w : Wallet) → wallet k ≡ Some w → takes tx (spent_outputs live tx) k ≡ true
+
+-- what such checks say of a finished transaction, on each ledger on which what it spends is live
+pub record IsJudged (v : Verifier) (hash : List ℕ → List ℕ) (keys : Keys) (s : Instance) (given : List Signed) (strings : List Shown)
+    (l : Listed) : Type 0 where
+  -- from its lock on they accept it, where the oracle accepts the given signatures and consensus takes the witnesses of wallets
+  pub judged : (oracle : Oracle) (takes : Consensus) (chain : Chain) → accepts hash keys s given oracle l ≡ true
+      → AllLive hash chain.live (wallets_of keys s l) l.pending.spends
+      → AllTaken takes (wallets_of keys s l) chain.live (finished hash keys s given strings l) → l.pending.lock ≤ chain.tip
+      → verdict_of hash (input_checks keys s l oracle takes) chain (finished hash keys s given strings l)
+      ≡ accepted_on chain (finished hash keys s given strings l)
+  -- and where the oracle agrees with the verifier at the inputs that keys of the deal sign
+  pub agreed : (oracle : Oracle) (takes : Consensus) (chain : Chain) → KeysAgree v hash keys s l oracle
+      → AllLive hash chain.live (wallets_of keys s l) l.pending.spends
+      → AllTaken takes (wallets_of keys s l) chain.live (finished hash keys s given strings l) → l.pending.lock ≤ chain.tip
+      → verdict_of hash (input_checks keys s l oracle takes) chain (finished hash keys s given strings l)
+      ≡ accepted_on chain (finished hash keys s given strings l)
+  -- as the verifier itself does, of the digests that the ledger asks for
+  pub verified : (takes : Consensus) (chain : Chain)
+      → AllLive hash chain.live (wallets_of keys s l) l.pending.spends
+      → AllTaken takes (wallets_of keys s l) chain.live (finished hash keys s given strings l) → l.pending.lock ≤ chain.tip
+      → verdict_of hash
+      (input_checks keys s l
+      (oracle_on (λ digest signature key. v.is_signature key digest signature) hash chain.live (finished hash keys s given strings l)) takes)
+      chain (finished hash keys s given strings l)
+      ≡ accepted_on chain (finished hash keys s given strings l)
+  -- there is such a ledger at each height
+  pub possible : (tip : ℕ) → (chain : Chain) × (chain.tip ≡ tip) × AllLive hash chain.live (wallets_of keys s l) l.pending.spends
+  -- before its lock none accepts it
+  pub early : (oracle : Oracle) (takes : Consensus) (chain : Chain) → AllLive hash chain.live (wallets_of keys s l) l.pending.spends
+      → chain.tip < l.pending.lock
+      → verdict_of hash (input_checks keys s l oracle takes) chain (finished hash keys s given strings l) ≡ Refused NotFinal
+
+-- where each of these is spent, what lies is the plan's: this value, for whoever shows this script
+abbrev pub AreLive : (List ℕ → List ℕ) → List Entry → List Spent → Type 0
+AreLive hash live spends = (x : Spent) → Contains spends x → output_at live x.outpoint ≡ Some (pays hash x.script x.value)
+
+-- where all deposits are of keys: on each ledger on which what it spends is live, and at each height from its lock on, the verdict accepts it
 pub record IsAccepted (v : Verifier) (hash : List ℕ → List ℕ) (keys : Keys) (s : Instance) (given : List Signed) (strings : List Shown)
     (l : Listed) : Type 0 where
+  -- by checks of the inputs that keys of the deal sign, and of those of wallets
+  pub by_input_checks : IsJudged v hash keys s given strings l
   -- this verdict is the ledger's, with an oracle in the place of the book of ideal signatures
   pub by_book : (book : List Pair) (chain : Chain)
       → judged_verdict hash (oracle_on (is_valid book) hash chain.live (finished hash keys s given strings l)) chain
       (finished hash keys s given strings l)
       ≡ verdict hash book chain (finished hash keys s given strings l)
   -- by every oracle that accepts the given signatures
-  pub judged : (oracle : Oracle) (chain : Chain) → accepts hash keys s given oracle l ≡ true → AreLive hash chain.live l.pending.spends
+  pub judged : AreKeyDeposits keys → (oracle : Oracle) (chain : Chain) → accepts hash keys s given oracle l ≡ true → AreLive hash chain.live l.pending.spends
       → l.pending.lock ≤ chain.tip
       → judged_verdict hash oracle chain (finished hash keys s given strings l) ≡ accepted_on chain (finished hash keys s given strings l)
   -- by every oracle that agrees with the verifier
-  pub agreed : (oracle : Oracle) (chain : Chain) → Agrees v hash l oracle → AreLive hash chain.live l.pending.spends → l.pending.lock ≤ chain.tip
+  pub agreed : AreKeyDeposits keys → (oracle : Oracle) (chain : Chain) → Agrees v hash l oracle → AreLive hash chain.live l.pending.spends → l.pending.lock ≤ chain.tip
       → judged_verdict hash oracle chain (finished hash keys s given strings l) ≡ accepted_on chain (finished hash keys s given strings l)
   -- by the verifier itself, of the digests that the ledger asks for, with nothing asked of it
-  pub verified : (chain : Chain) → AreLive hash chain.live l.pending.spends → l.pending.lock ≤ chain.tip
+  pub verified : AreKeyDeposits keys → (chain : Chain) → AreLive hash chain.live l.pending.spends → l.pending.lock ≤ chain.tip
       → verdict_by v hash chain (finished hash keys s given strings l) ≡ accepted_on chain (finished hash keys s given strings l)
   -- there is such a ledger at each height
   pub possible : (tip : ℕ) → (chain : Chain) × (chain.tip ≡ tip) × AreLive hash chain.live l.pending.spends

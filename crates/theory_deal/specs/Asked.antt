@@ -1,5 +1,5 @@
 -- What is known of all that a deal asks to be signed: its transactions, its signatures, their order, and which of them are endorsements.
-use Rattle.std.specs.Prelude.{◌≡◌, ℕ, List, map, ◌↔◌}
+use Rattle.std.specs.Prelude.{◌≡◌, ℕ, List, map, None, ◌↔◌}
 use Rattle.std.specs.List.{Contains}
 use Rattle.spec_compiler.specs.Keyed.Keys.{Keys}
 use Rattle.spec_compiler.specs.Keyed.Instance.{Instance}
@@ -17,8 +17,10 @@ pub record DealAsks (hash : List ℕ → List ℕ) (keys : Keys) (s : Instance) 
   pub transactions : AreTransactions hash keys s
   -- a signature is needed exactly where the contract asks for it
   pub exactly : (slot : Slot) → Contains (slots hash keys s) slot ↔ IsAsked hash keys s slot
-  -- and the script of its input asks for its key, where all deposits are of keys
-  pub keyed : AreKeyDeposits keys → (slot : Slot) → Contains (slots hash keys s) slot → AsksForKey hash keys s slot.spent.script slot.label
+  -- and the script of its input asks for its key, where it is by one
+  pub keyed : (slot : Slot) → Contains (slots hash keys s) slot → slot.wallet ≡ None → AsksForKey hash keys s slot.spent.script slot.label
+  -- as it is where all deposits are of keys
+  pub by_keys : AreKeyDeposits keys → (slot : Slot) → Contains (slots hash keys s) slot → slot.wallet ≡ None
   pub order : AreInOrder hash keys s
   -- the endorsements are those that an honest party in a run waits for
   pub endorsed : map (need_of hash keys) (endorsements hash keys s) ≡ needed hash keys s

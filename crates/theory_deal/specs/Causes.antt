@@ -1,5 +1,6 @@
 -- What is claimed of the statuses of the program for deals.
-use Rattle.std.specs.Prelude.{◌≡◌, ℕ, List, [], ◌∷◌, Bool, true, false, if◌then◌else◌, ◌&&◌, Option, Some, None, Result, Ok, Err, ◌↔◌, is_err, is_some}
+use Rattle.std.specs.Prelude.{◌≡◌, ℕ, List, [], ◌∷◌, Bool, true, false, not, if◌then◌else◌, ◌&&◌, ◌||◌, Option, Some, None}
+use Rattle.std.specs.Prelude.{Result, Ok, Err, ◌↔◌, is_err, is_some}
 use Rattle.std.specs.Option.{is_none}
 use Rattle.spec_data.specs.Lists.{has_number}
 use Rattle.spec_data.specs.Messages.{collision}
@@ -12,15 +13,18 @@ use Rattle.spec_tool.specs.Keyed.Listed.{Listed, listed_at}
 use Rattle.spec_tool.specs.Answers.{contract_in}
 use Rattle.spec_tool.specs.Reads.{Read, Text, text_at, texts_read}
 use Rattle.spec_deal.specs.declared.deal.Deal.{Deal}
+use Rattle.spec_deal.specs.declared.entry.Entry.{Entry}
 use Rattle.spec_deal.specs.declared.entry.Shown.{Shown}
 use Rattle.spec_deal.specs.declared.fault.DealFault.{DealFault}
 use Rattle.spec_deal.specs.declared.fault.SignatureFault.{SignatureFault}
 use Rattle.spec_deal.specs.declared.signed.Signed.{Signed}
-use Rattle.spec_deal.specs.Answers.{circular, deal_in, signatures_in, secrets_in, deal_text_answer, deal_answer}
+use Rattle.spec_deal.specs.Answers.{circular, deal_in, part_in, signatures_in, secrets_in, offered_in, deal_text_answer, deal_answer}
 use Rattle.spec_deal.specs.Commands as commands
 use Rattle.spec_deal.specs.Commands.{DealCommand}
 use Rattle.spec_deal.specs.Finished.{finish_refusal}
+use Rattle.spec_deal.specs.FundText.{fund_strings}
 use Rattle.spec_deal.specs.Hashed.{deal_strings}
+use Rattle.spec_deal.specs.ReadyText.{is_ready}
 use Rattle.spec_deal.specs.SecretFile.{SecretsRead, shows, refused, collided}
 use Rattle.spec_deal.specs.Setting.{deal_keys, deal_instance}
 use Rattle.spec_deal.specs.Verifier.{Verifier}
@@ -39,8 +43,31 @@ reads_deal (commands.missing contract deal signatures) = true
 reads_deal (commands.held contract deal signatures) = true
 reads_deal (commands.finish contract deal which signatures) = true
 reads_deal (commands.finish_with contract deal which signatures secrets) = true
+reads_deal (commands.fund contract deal) = false
+reads_deal (commands.warn contract deal) = true
+reads_deal (commands.warn_with contract deal secrets) = true
+reads_deal (commands.ready contract deal signatures) = true
+reads_deal (commands.ready_with contract deal signatures secrets) = true
+reads_deal (commands.endorse contract deal party) = true
+reads_deal (commands.hashes contract secrets) = false
 
--- whether a deal is refused: before it is compiled, or for a deposit that it makes itself, where none of its strings collide
+-- whether it reads a deal file that may lack lines, and whether it reads secrets that no deal has yet
+abbrev pub reads_part : DealCommand → Bool
+reads_part (commands.fund contract deal) = true
+reads_part _ = false
+
+abbrev pub reads_offers : DealCommand → Bool
+reads_offers (commands.hashes contract secrets) = true
+reads_offers _ = false
+
+-- whether it asks for the initial transaction to be ready
+abbrev pub asks_ready : DealCommand → Bool
+asks_ready (commands.ready contract deal signatures) = true
+asks_ready (commands.ready_with contract deal signatures secrets) = true
+asks_ready _ = false
+
+-- whether a deal is refused: before it is compiled, or for a deposit that it makes itself or a payout to one of its positions, where none of
+-- its strings collide
 abbrev pub is_refused : (List ℕ → List ℕ) → Advert → Result Deal DealFault → Bool
 is_refused hash advert (Err fault) = true
 is_refused hash advert (Ok deal) =
@@ -52,7 +79,21 @@ abbrev pub is_deal_refused : Verifier → (List ℕ → List ℕ) → Judged Adv
 is_deal_refused v hash (Err why) text = false
 is_deal_refused v hash (Ok advert) text = is_refused hash advert (deal_in v advert text)
 
+-- whether the contract is taken and the deal file of this text is refused though it may lack lines
+abbrev pub is_part_refused : Verifier → Judged Advert → Text → Bool
+is_part_refused v (Err why) text = false
+is_part_refused v (Ok advert) text = is_err (part_in v advert text)
+
 -- ---- all causes in their order
+
+-- whether strings of a deal file that may lack lines collide
+abbrev pub part_collides : (List ℕ → List ℕ) → Advert → Result (List Entry) DealFault → Bool
+part_collides hash advert (Err fault) = false
+part_collides hash advert (Ok entries) = is_some (collision hash [] (fund_strings advert entries))
+
+abbrev pub do_part_collide : Verifier → (List ℕ → List ℕ) → Judged Advert → Text → Bool
+do_part_collide v hash (Err why) text = false
+do_part_collide v hash (Ok advert) text = part_collides hash advert (part_in v advert text)
 
 -- whether this is so of a deal that is taken as far as it is read
 abbrev pub if_read : (Keys → Instance → Bool) → Advert → Result Deal DealFault → Bool
@@ -72,7 +113,7 @@ is_unread v (Ok advert) text = is_err (deal_in v advert text)
 abbrev pub do_collide : (List ℕ → List ℕ) → Keys → Instance → Bool
 do_collide hash keys s = is_some (collision hash [] (deal_strings hash keys s))
 
--- whether the deal makes one of its own deposits
+-- whether the deal makes one of its own deposits, or pays to one of its positions
 abbrev pub is_circular : (List ℕ → List ℕ) → Keys → Instance → Bool
 is_circular hash keys s = is_some (circular hash keys s)
 
@@ -86,6 +127,13 @@ named_by (commands.missing contract deal signatures) = None
 named_by (commands.held contract deal signatures) = None
 named_by (commands.finish contract deal which signatures) = Some which
 named_by (commands.finish_with contract deal which signatures secrets) = Some which
+named_by (commands.fund contract deal) = None
+named_by (commands.warn contract deal) = None
+named_by (commands.warn_with contract deal secrets) = None
+named_by (commands.ready contract deal signatures) = None
+named_by (commands.ready_with contract deal signatures secrets) = None
+named_by (commands.endorse contract deal party) = None
+named_by (commands.hashes contract secrets) = None
 
 -- whether the contract hasn't that transaction
 abbrev pub is_absent : (List ℕ → List ℕ) → Option Which → Keys → Instance → Bool
@@ -102,6 +150,13 @@ reads_signatures (commands.missing contract deal signatures) = true
 reads_signatures (commands.held contract deal signatures) = true
 reads_signatures (commands.finish contract deal which signatures) = true
 reads_signatures (commands.finish_with contract deal which signatures secrets) = true
+reads_signatures (commands.fund contract deal) = false
+reads_signatures (commands.warn contract deal) = false
+reads_signatures (commands.warn_with contract deal secrets) = false
+reads_signatures (commands.ready contract deal signatures) = true
+reads_signatures (commands.ready_with contract deal signatures secrets) = true
+reads_signatures (commands.endorse contract deal party) = false
+reads_signatures (commands.hashes contract secrets) = false
 
 abbrev pub reads_secrets : DealCommand → Bool
 reads_secrets (commands.keys contract) = false
@@ -112,6 +167,13 @@ reads_secrets (commands.missing contract deal signatures) = false
 reads_secrets (commands.held contract deal signatures) = false
 reads_secrets (commands.finish contract deal which signatures) = false
 reads_secrets (commands.finish_with contract deal which signatures secrets) = true
+reads_secrets (commands.fund contract deal) = false
+reads_secrets (commands.warn contract deal) = false
+reads_secrets (commands.warn_with contract deal secrets) = true
+reads_secrets (commands.ready contract deal signatures) = false
+reads_secrets (commands.ready_with contract deal signatures secrets) = true
+reads_secrets (commands.endorse contract deal party) = false
+reads_secrets (commands.hashes contract secrets) = false
 
 abbrev pub are_bad : SecretsRead → Bool
 are_bad (shows strings) = false
@@ -122,6 +184,16 @@ abbrev pub have_collided : SecretsRead → Bool
 have_collided (shows strings) = false
 have_collided (refused fault) = false
 have_collided (collided earlier later) = true
+
+-- whether it is so of the secrets that a file offers to a contract that is taken
+abbrev pub of_offers : (List ℕ → List ℕ) → (SecretsRead → Bool) → Judged Advert → Text → Bool
+of_offers hash test (Err why) text = false
+of_offers hash test (Ok advert) text = test (offered_in hash advert text)
+
+-- the file of secrets of a command that reads a deal
+abbrev pub secrets_text : DealCommand → List Text → Text
+secrets_text (commands.warn_with contract deal secrets) texts = text_at texts 2
+secrets_text _ texts = text_at texts 3
 
 -- the signatures and the strings that there are
 abbrev pub given_of : Result (List Signed) SignatureFault → List Signed
@@ -150,34 +222,51 @@ to_finish hash (commands.missing contract deal signatures) keys s = None
 to_finish hash (commands.held contract deal signatures) keys s = None
 to_finish hash (commands.finish contract deal which signatures) keys s = listed_at hash keys s which
 to_finish hash (commands.finish_with contract deal which signatures secrets) keys s = listed_at hash keys s which
+to_finish hash (commands.fund contract deal) keys s = None
+to_finish hash (commands.warn contract deal) keys s = None
+to_finish hash (commands.warn_with contract deal secrets) keys s = None
+to_finish hash (commands.ready contract deal signatures) keys s = None
+to_finish hash (commands.ready_with contract deal signatures secrets) keys s = None
+to_finish hash (commands.endorse contract deal party) keys s = None
+to_finish hash (commands.hashes contract secrets) keys s = None
 
 -- whether it is so, and the status that is answered for it
 abbrev pub Cause : Type 0
 Cause = Bool × ℕ
 
--- those of a deal that is taken: no such path, a bad file of signatures, a bad file of secrets, whose strings collide, something missing
+-- those of a deal that is taken: no such path, a bad file of signatures, a bad file of secrets, whose strings collide, something missing, and
+-- an initial transaction that isn't ready
 abbrev pub later_causes : Verifier → (List ℕ → List ℕ) → DealCommand → List Text → ((Keys → Instance → Bool) → Bool) → List Cause
 later_causes v hash command texts so =
     (so (is_absent hash (named_by command)), 16)
     ∷ (so (λ keys s. reads_signatures command && is_err (signatures_in v hash keys s (text_at texts 2))), 14)
-    ∷ (so (λ keys s. reads_secrets command && are_bad (secrets_in hash keys s (text_at texts 3))), 15)
-    ∷ (so (λ keys s. reads_secrets command && have_collided (secrets_in hash keys s (text_at texts 3))), 8)
+    ∷ (so (λ keys s. reads_secrets command && are_bad (secrets_in hash keys s (secrets_text command texts))), 15)
+    ∷ (so (λ keys s. reads_secrets command && have_collided (secrets_in hash keys s (secrets_text command texts))), 8)
     ∷ (
       so (λ keys s.
-          is_unfinished hash keys s (given_of (signatures_in v hash keys s (text_at texts 2))) (strings_by hash command (text_at texts 3) keys s)
+          is_unfinished hash keys s (given_of (signatures_in v hash keys s (text_at texts 2))) (strings_by hash command (secrets_text command texts) keys s)
           (to_finish hash command keys s)),
+      16,
+    )
+    ∷ (
+      so (λ keys s. asks_ready command && not (is_ready hash keys s (given_of (signatures_in v hash keys s (text_at texts 2))))),
       16,
     )
     ∷ []
 
--- of a deal: strings that collide, and a deposit that the deal itself makes
+-- of a deal: strings that collide, and a deposit that the deal itself makes or a payout to one of its positions
 abbrev pub deal_causes : Verifier → (List ℕ → List ℕ) → DealCommand → List Text → ((Keys → Instance → Bool) → Bool) → List Cause
 deal_causes v hash command texts so = (so (do_collide hash), 8) ∷ (so (is_circular hash), 13) ∷ later_causes v hash command texts so
 
--- all of them: a refused contract, a refused deal file, and those of the deal
+-- all of them: a refused contract, a refused deal file, and those of the deal. A command reads a whole deal file, one that may lack lines, or
+-- none; and secrets of a deal or such as none has yet.
 abbrev pub causes : Verifier → (List ℕ → List ℕ) → DealCommand → List Text → List Cause
 causes v hash command texts =
     (is_err (contract_in (text_at texts 0)), 1)
+    ∷ (reads_part command && is_part_refused v (contract_in (text_at texts 0)) (text_at texts 1), 13)
+    ∷ (reads_part command && do_part_collide v hash (contract_in (text_at texts 0)) (text_at texts 1), 8)
+    ∷ (reads_offers command && of_offers hash are_bad (contract_in (text_at texts 0)) (text_at texts 1), 15)
+    ∷ (reads_offers command && of_offers hash have_collided (contract_in (text_at texts 0)) (text_at texts 1), 8)
     ∷ (reads_deal command && is_unread v (contract_in (text_at texts 0)) (text_at texts 1), 13)
     ∷ deal_causes v hash command texts
     (λ test. reads_deal command && if_taken v test (contract_in (text_at texts 0)) (text_at texts 1))
@@ -200,7 +289,8 @@ pub record DealCausesTheorem : Type 0 where
   -- 13 is answered exactly where the deal is refused
   pub deal_refused : (v : Verifier) (hash : List ℕ → List ℕ) (command : DealCommand) (texts : List Text)
       → ((deal_text_answer v hash command texts).status ≡ 13)
-      ↔ ((reads_deal command && is_deal_refused v hash (contract_in (text_at texts 0)) (text_at texts 1)) ≡ true)
+      ↔ ((reads_deal command && is_deal_refused v hash (contract_in (text_at texts 0)) (text_at texts 1)
+      || reads_part command && is_part_refused v (contract_in (text_at texts 0)) (text_at texts 1)) ≡ true)
   -- the status is that of the first cause in their order
   pub in_order : (v : Verifier) (hash : List ℕ → List ℕ) (command : DealCommand) (texts : List Text)
       → (deal_text_answer v hash command texts).status ≡ first_status (causes v hash command texts)

@@ -33,6 +33,13 @@ finishes (commands.missing contract deal signatures) = None
 finishes (commands.held contract deal signatures) = None
 finishes (commands.finish contract deal which signatures) = Some which
 finishes (commands.finish_with contract deal which signatures secrets) = Some which
+finishes (commands.fund contract deal) = None
+finishes (commands.warn contract deal) = None
+finishes (commands.warn_with contract deal secrets) = None
+finishes (commands.ready contract deal signatures) = None
+finishes (commands.ready_with contract deal signatures secrets) = None
+finishes (commands.endorse contract deal party) = None
+finishes (commands.hashes contract secrets) = None
 
 -- the text is the transaction of this name, finished from the contract, the deal, the signatures and the secrets of the files
 pub record IsFinishedText (v : Verifier) (hash : List ℕ → List ℕ) (texts : List Text) (which : Which) (text : List ℕ) : Type 0 where

@@ -33,7 +33,7 @@ pub record GivesSigners (v : Verifier) (hash : List ℕ → List ℕ) (texts : L
     (contract_file deal_file : List ℕ) : Type 0 where
   -- under a name stands the contract's transaction of that name, without signatures
   pub each : (which : Which) (l : Listed) → listed_at hash (deal_keys deal) (deal_instance advert deal) which ≡ Some l
-      → deal_text_answer v hash (commands.psbt contract_file deal_file which) texts ≡ prints 0 (psbt_line (unsigned_psbt hash l))
+      → deal_text_answer v hash (commands.psbt contract_file deal_file which) texts ≡ prints 0 (psbt_line (unsigned_psbt hash (deal_keys deal) advert l))
   -- and all together are these in order
   pub all : deal_text_answer v hash (commands.psbts contract_file deal_file) texts
       ≡ prints 0 (flat_map (file_of v hash contract_file deal_file texts) (all_names advert.root))

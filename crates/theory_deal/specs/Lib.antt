@@ -20,3 +20,7 @@ pub mod FirstOf
 pub mod SecretLines
 pub mod DealLines
 pub mod SignatureLines
+pub mod Plain
+pub mod Circles
+pub mod Weights
+pub mod Used

@@ -1,5 +1,5 @@
 -- What is claimed of the scripts that a deal's signatures are for: the key of each signature is one for which the script of its input asks.
-use Rattle.std.specs.Prelude.{◌≡◌, ℕ, List, Some, slice_get}
+use Rattle.std.specs.Prelude.{◌≡◌, ℕ, List, Some, None, slice_get}
 use Rattle.std.specs.List.{Contains}
 use Rattle.spec_terms.specs.Term.{Guarded, Contract, branches}
 use Rattle.spec_terms.specs.Paths.{contract_under}
@@ -28,7 +28,10 @@ abbrev pub AsksForKey : (List ℕ → List ℕ) → Keys → Instance → List �
 AsksForKey hash keys s script (labels.Deposit party) = script ≡ deposit_script (key_in hash keys (labels.Deposit party))
 AsksForKey hash keys s script (labels.Branch contract path party) = IsOfPosition hash keys s path script
 
--- where all deposits are of keys
+-- of each that is by a key; all are where all deposits are of keys
+pub record AskForKeys (hash : List ℕ → List ℕ) (keys : Keys) (s : Instance) : Type 0 where
+  pub keyed : (slot : Slot) → Contains (slots hash keys s) slot → slot.wallet ≡ None → AsksForKey hash keys s slot.spent.script slot.label
+  pub by_keys : AreKeyDeposits keys → (slot : Slot) → Contains (slots hash keys s) slot → slot.wallet ≡ None
+
 abbrev pub ScriptsAsk : Type 0
-ScriptsAsk = (hash : List ℕ → List ℕ) (keys : Keys) (s : Instance) → AreKeyDeposits keys → (slot : Slot)
-    → Contains (slots hash keys s) slot → AsksForKey hash keys s slot.spent.script slot.label
+ScriptsAsk = (hash : List ℕ → List ℕ) (keys : Keys) (s : Instance) → AskForKeys hash keys s

@@ -1,9 +1,11 @@
 -- What is claimed of files of signatures: a file comes to what its lines come to, each by the transaction that its word spells, input by
 -- input, signature by signature; so it is refused at its first bad line, by the first reason that holds there.
-use Rattle.std.specs.Prelude.{◌≡◌, ℕ, ◌+◌, ◌<◌, ◌≤◌, List, [], ◌∷◌, ◌++◌, length, ◌⊎◌, ◌↔◌, true, Option, Some, None, Result, Ok, Err}
+use Rattle.std.specs.Prelude.{◌≡◌, ℕ, ◌+◌, ◌<◌, ◌≤◌, List, [], ◌∷◌, ◌++◌, length, ◌⊎◌, ◌↔◌, true, slice_index, Option, Some, None}
+use Rattle.std.specs.Prelude.{Result, Ok, Err}
 use Rattle.spec_bitcoin.specs.declared.tx.TxOut.{TxOut}
 use Rattle.spec_bitcoin.specs.Keys.{key_bytes, deposit_script}
 use Rattle.spec_bitcoin.specs.Spelling.{IsBytes, stripped}
+use Rattle.spec_compiler.specs.Keyed.OwnScripts.{pays_to_key_hash}
 use Rattle.spec_compiler.specs.Keyed.Keys.{Keys}
 use Rattle.spec_compiler.specs.Keyed.Instance.{Instance}
 use Rattle.spec_text.specs.Lines.{lines_of, words_of}
@@ -16,12 +18,17 @@ use Rattle.spec_deal.specs.declared.fault.SignatureReason.TheVariants as reasons
 use Rattle.spec_deal.specs.declared.fault.SignatureFault.{SignatureFault}
 use Rattle.spec_deal.specs.declared.fault.SignatureFault.TheVariants as faults
 use Rattle.spec_deal.specs.Sizes.{most_signature_bytes}
+use Rattle.spec_deal.specs.Payable.{has_taproot_form}
+use Rattle.spec_deal.specs.Setting.{no_key}
 use Rattle.spec_deal.specs.Shape.{HasShape}
 use Rattle.spec_deal.specs.declared.transaction.Input.{Input}
 use Rattle.spec_deal.specs.declared.transaction.Transaction.{Transaction}
+use Rattle.spec_deal.specs.declared.transaction.Wallet.{Wallet}
 use Rattle.spec_deal.specs.Transactions.{Required, all_required, transactions}
 use Rattle.spec_deal.specs.SignatureFile.{Taken, read_signatures}
 use Rattle.spec_deal.specs.Verifier.{Verifier}
+use Rattle.spec_deal.specs.Wallets.{first_item, second_item}
+use Rattle.theory_deal.specs.DealLines.{IsCompressed}
 use Rattle.theory_deal.specs.FirstOf.{NoneIs, IsFirst, EachIs}
 
 -- ---- cases
@@ -57,24 +64,25 @@ abbrev pub IsInPlace : Signed → Signed → Type 0
 IsInPlace g earlier = (earlier.tx ≡ g.tx) × ((earlier.input ≡ g.input) × (earlier.key ≡ g.key))
 
 -- the first of its place is taken where it verifies
-abbrev pub FirstTaken : Verifier → List Required → List Signed → Signed → Taken → Type 0
-FirstTaken v required given g taken = IfSo (Verifies v required g) (taken ≡ Ok (given ++ g ∷ [])) (taken ≡ Err (reasons.Invalid g.input))
+abbrev pub FirstTaken : Type 0 → List Signed → Signed → Taken → Type 0
+FirstTaken IsGood given g taken = IfSo IsGood (taken ≡ Ok (given ++ g ∷ [])) (taken ≡ Err (reasons.Invalid g.input))
 
 -- a second one is taken where it is the same
-abbrev pub SecondTaken : Verifier → List Required → List Signed → Signed → Taken → Signed → Type 0
-SecondTaken v required given g taken earlier =
-    IfSo (earlier.signature ≡ g.signature) (taken ≡ Ok given)
-    (IfSo (Verifies v required g) (taken ≡ Err (reasons.Conflict g.input)) (taken ≡ Err (reasons.Invalid g.input)))
+abbrev pub SecondTaken : Type 0 → Type 0 → List Signed → Signed → Taken → Type 0
+SecondTaken IsGood IsSame given g taken =
+    IfSo IsSame (taken ≡ Ok given)
+    (IfSo IsGood (taken ≡ Err (reasons.Conflict g.input)) (taken ≡ Err (reasons.Invalid g.input)))
 
 -- one more signature comes to this
 abbrev pub SignatureTaken : Verifier → List Required → List Signed → Signed → Taken → Type 0
 SignatureTaken v required given g taken =
     IfSo (NoneIs (IsFor g) required) (taken ≡ Err (reasons.Key g.input))
     (IfSo (HasShape g.signature → ⊥) (taken ≡ Err (reasons.Signature g.input))
-    (IfAny (IsInPlace g) given (FirstTaken v required given g taken) (SecondTaken v required given g taken)))
+    (IfAny (IsInPlace g) given (FirstTaken (Verifies v required g) given g taken)
+    (λ earlier. SecondTaken (Verifies v required g) (earlier.signature ≡ g.signature) given g taken)))
 
 abbrev pub signed_by : List ℕ → ℕ → Pairing → Signed
-signed_by tx k p = record { tx = tx; input = k; key = p.0; signature = p.1 }
+signed_by tx k p = record { tx = tx; input = k; key = p.0; signature = p.1; witness = [] }
 
 -- the signatures of input k, one behind the other
 abbrev pub SignaturesTaken : Verifier → List Required → List ℕ → ℕ → List Signed → List Pairing → Taken → Type 0
@@ -99,13 +107,71 @@ FinalGives script (Some (signature ∷ shown ∷ [])) ps =
     (key : List ℕ) × (length key ≡ key_bytes) × (script ≡ deposit_script key) × (shown ≡ script) × (ps ≡ (key, signature) ∷ [])
 FinalGives script (Some (signature ∷ shown ∷ item ∷ items)) ps = ⊥
 
--- an input: what its records say, and then its signatures and that of its final witness
-abbrev pub InputTaken : Verifier → List Required → List ℕ → ℕ → List Signed → Input → PsbtInput → Taken → Type 0
-InputTaken v required tx k given i input taken =
+-- an input that keys sign: what its records say, and then its signatures and that of its final witness
+abbrev pub KeyInputTaken : Verifier → List Required → List ℕ → ℕ → List Signed → Input → PsbtInput → Taken → Type 0
+KeyInputTaken v required tx k given i input taken =
     IfSo (SaysOther i.output input.spent) (taken ≡ Err (reasons.Spent k))
     (IfSo (SaysOther i.spent.script input.script) (taken ≡ Err (reasons.Script k))
     (IfOne (FinalGives i.spent.script input.witness) (taken ≡ Err (reasons.Witness k))
     (λ ps. SignaturesTaken v required tx k given (input.partial ++ ps) taken)))
+
+-- ---- an input that a wallet signs
+
+-- a signature, and a key
+abbrev pub ShowsKey : Verifier → List (List ℕ) → Type 0
+ShowsKey v items =
+    (signature : List ℕ) × (key : List ℕ) × (items ≡ signature ∷ key ∷ []) × IsCompressed key × (v.is_point key ≡ true)
+
+-- an item alone is a signature whose hash type signs all: none said, or 1
+abbrev pub MayBeTaproot : List (List ℕ) → Type 0
+MayBeTaproot items =
+    (item : List ℕ) → items ≡ item ∷ [] → (length item ≡ 64) ⊎ ((length item ≡ 65) × (slice_index item 64 ≡ 1))
+
+-- items can be the witness of an input that spends an output of this script: there are some; by a key's hash they are a signature and a
+-- key; by a Taproot key one alone is a signature
+pub record CanSpend (v : Verifier) (script : List ℕ) (items : List (List ℕ)) : Type 0 where
+  pub some : items ≡ [] → ⊥
+  pub key_hash : pays_to_key_hash script ≡ true → ShowsKey v items
+  pub taproot : has_taproot_form script ≡ true → MayBeTaproot items
+
+-- by a key's hash the signature verifies under the key beside it
+abbrev pub VerifiesBeside : Verifier → List ℕ → List ℕ → List (List ℕ) → Type 0
+VerifiesBeside v digest script items =
+    pays_to_key_hash script ≡ true → v.is_signature (second_item items) digest (first_item items) ≡ true
+
+-- by a key's hash its signature has the shape
+abbrev pub HasShapeThere : List ℕ → List (List ℕ) → Type 0
+HasShapeThere script items = pays_to_key_hash script ≡ true → HasShape (first_item items)
+
+-- one more witness of a wallet's comes to this
+abbrev pub WitnessTaken : Verifier → List ℕ → List ℕ → List Signed → Signed → Taken → Type 0
+WitnessTaken v digest script given g taken =
+    IfSo (CanSpend v script g.witness → ⊥) (taken ≡ Err (reasons.Witness g.input))
+    (IfSo (HasShapeThere script g.witness → ⊥) (taken ≡ Err (reasons.Signature g.input))
+    (IfAny (IsInPlace g) given (FirstTaken (VerifiesBeside v digest script g.witness) given g taken)
+    (λ earlier. SecondTaken (VerifiesBeside v digest script g.witness) (earlier.witness ≡ g.witness) given g taken)))
+
+abbrev pub witnessed_by : List ℕ → ℕ → List (List ℕ) → Signed
+witnessed_by tx k items = record { tx = tx; input = k; key = no_key; signature = []; witness = items }
+
+-- a final witness, if there is one
+abbrev pub FinalTaken : Verifier → List ℕ → ℕ → List Signed → Input → Wallet → Option (List (List ℕ)) → Taken → Type 0
+FinalTaken v tx k given i w None taken = taken ≡ Ok given
+FinalTaken v tx k given i w (Some items) taken = WitnessTaken v i.digest w.script given (witnessed_by tx k items) taken
+
+-- what its record of the output says, and then its final witness; its other records are read over
+abbrev pub WalletInputTaken : Verifier → List ℕ → ℕ → List Signed → Input → Wallet → PsbtInput → Taken → Type 0
+WalletInputTaken v tx k given i w input taken =
+    IfSo (SaysOther i.output input.spent) (taken ≡ Err (reasons.Spent k)) (FinalTaken v tx k given i w input.witness taken)
+
+-- ---- inputs
+
+abbrev pub InputTakenBy : Verifier → List Required → List ℕ → ℕ → List Signed → Input → PsbtInput → Taken → Option Wallet → Type 0
+InputTakenBy v required tx k given i input taken None = KeyInputTaken v required tx k given i input taken
+InputTakenBy v required tx k given i input taken (Some w) = WalletInputTaken v tx k given i w input taken
+
+abbrev pub InputTaken : Verifier → List Required → List ℕ → ℕ → List Signed → Input → PsbtInput → Taken → Type 0
+InputTaken v required tx k given i input taken = InputTakenBy v required tx k given i input taken i.wallet
 
 -- the inputs from number k on
 abbrev pub InputsTaken : Verifier → List Required → List ℕ → ℕ → List Signed → List Input → List PsbtInput → Taken → Type 0

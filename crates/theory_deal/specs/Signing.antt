@@ -9,7 +9,7 @@ use Rattle.spec_terms.specs.Precondition.{Holding, persistent}
 use Rattle.spec_terms.specs.declared.path.PathStep.{PathStep}
 use Rattle.spec_bitcoin.specs.declared.label.Label.{Label}
 use Rattle.spec_bitcoin.specs.declared.label.Label.TheVariants as labels
-use Rattle.spec_compiler.specs.Keyed.Keys.{Keys}
+use Rattle.spec_compiler.specs.Keyed.Keys.{Keys, key_in}
 use Rattle.spec_compiler.specs.Keyed.Instance.{Instance, people, branch_label}
 use Rattle.spec_compiler.specs.Keyed.Endorsements.{Need, needed, put_owner}
 use Rattle.spec_tool.specs.declared.which.Which.{Which}
@@ -20,7 +20,8 @@ use Rattle.spec_deal.specs.declared.finish.Verb.TheVariants as verbs
 use Rattle.spec_deal.specs.declared.signed.Signed.{Signed}
 use Rattle.spec_deal.specs.Finished.{which_path, label_party}
 use Rattle.spec_deal.specs.Given.{has, missing, held, endorsements}
-use Rattle.spec_deal.specs.Slots.{Slot, slots, slot_key, slot_digest}
+use Rattle.spec_deal.specs.Slots.{Slot, slots, slot_digest}
+use Rattle.spec_deal.specs.Wallets.{input_wallet}
 
 -- ---- who signs
 
@@ -59,11 +60,13 @@ abbrev pub Signs : Instance → Which → ℕ → Label → Verb → Type 0
 Signs s names.Init k label verb = StartsBy s k label verb
 Signs s (names.At path) k label verb = (b : Guarded) × (at s.advert.root path ≡ Some b) × BranchBy s path b k label verb
 
--- the contract has the transaction, its input spends this, and the key of the label signs it by that event
+-- the contract has the transaction, its input spends this, and the key of the label signs it by that event, or the wallet that brings what
+-- the input spends
 pub record IsAsked (hash : List ℕ → List ℕ) (keys : Keys) (s : Instance) (slot : Slot) : Type 0 where
   pub there : option_map (λ (l : Listed). l.pending) (listed_at hash keys s slot.which) ≡ Some slot.pending
   pub spends : slice_get slot.pending.spends slot.input ≡ Some slot.spent
   pub signs : Signs s slot.which slot.input slot.label slot.verb
+  pub brought : slot.wallet ≡ input_wallet keys s.advert slot.which slot.input
 
 -- a signature is needed exactly where it is asked for so
 abbrev pub AsksExactly : Type 0
@@ -72,12 +75,12 @@ AsksExactly = (hash : List ℕ → List ℕ) (keys : Keys) (s : Instance) (slot 
 
 -- ---- endorsements
 
--- a signature as an honest party in a run waits for it before it signs the initial transaction
+-- a signature as an honest party in a run waits for it before it signs the initial transaction: by the key of its label
 abbrev pub need_of : (List ℕ → List ℕ) → Keys → Slot → Need
 need_of hash keys slot = record {
   path = which_path slot.which;
   party = label_party slot.label;
-  key = slot_key hash keys slot;
+  key = key_in hash keys slot.label;
   digest = slot_digest hash slot;
 }
 

@@ -1,6 +1,6 @@
 -- What is claimed of the transactions of a deal: one for the beginning and one for each branch, in the order of the text; that they pay out
 -- what they spend but the fee; and which strings are hashed to make them.
-use Rattle.std.specs.Prelude.{◌≡◌, ℕ, List, ◌∷◌, ◌++◌, map, true, Some, ◌↔◌}
+use Rattle.std.specs.Prelude.{◌≡◌, ℕ, List, ◌∷◌, ◌++◌, map, filter, true, Some, ◌↔◌}
 use Rattle.std.specs.List.{Contains}
 use Rattle.spec_terms.specs.Term.{Contract}
 use Rattle.spec_terms.specs.Faults.{IsWellFormed}
@@ -15,6 +15,7 @@ use Rattle.spec_tool.specs.declared.which.Which.{Which}
 use Rattle.spec_tool.specs.declared.which.Which.TheVariants as names
 use Rattle.spec_tool.specs.Keyed.Listed.{Listed, listed, listed_at}
 use Rattle.spec_deal.specs.Hashed.{deal_strings}
+use Rattle.spec_deal.specs.Used.{uses_key}
 use Rattle.theory_script.specs.Keyed.Listed.{are_once}
 use Rattle.theory_script.specs.Keyed.Money.{IsKept}
 
@@ -36,7 +37,10 @@ pub record AreTransactions (hash : List ℕ → List ℕ) (keys : Keys) (s : Ins
 abbrev pub TransactionsOfDeals : Type 0
 TransactionsOfDeals = (hash : List ℕ → List ℕ) (keys : Keys) (s : Instance) → AreTransactions hash keys s
 
--- what is hashed for a deal is the script of each participant's deposits, and then what is hashed to compile its contract at given keys
+-- what is hashed for a deal is the script of the deposits of each participant whose key is used, and then what is hashed to compile its
+-- contract at given keys
 abbrev pub DealsHash : Type 0
 DealsHash = (hash : List ℕ → List ℕ) (key_of : Label → List ℕ) (own : OwnScripts) (s : Instance)
-    → deal_strings hash (given key_of own) s ≡ map (party_script hash (given key_of own)) (people s) ++ compiled_strings hash (given key_of own) s
+    → deal_strings hash (given key_of own) s
+    ≡ map (party_script hash (given key_of own)) (filter (uses_key (given key_of own) s.advert) (people s))
+    ++ compiled_strings hash (given key_of own) s

@@ -7,6 +7,7 @@ use Rattle.spec_terms.specs.Faults.{IsWellFormed}
 use Rattle.spec_bitcoin.specs.Spelling.{stripped, spelling}
 use Rattle.spec_compiler.specs.Keyed.Keys.{Keys}
 use Rattle.spec_compiler.specs.Keyed.Instance.{Instance}
+use Rattle.spec_compiler.specs.Keyed.Statements.{AreKeyDeposits}
 use Rattle.spec_compiler.specs.Keyed.Transactions.{tx_of}
 use Rattle.spec_run.specs.Firing.{revealed_by}
 use Rattle.spec_text.specs.RunText.{newline}
@@ -26,7 +27,7 @@ use Rattle.spec_deal.specs.Setting.{deal_keys, deal_instance}
 use Rattle.spec_deal.specs.SignatureFile.{read_signatures}
 use Rattle.spec_deal.specs.Slots.{listed_slots}
 use Rattle.spec_deal.specs.Verifier.{Verifier}
-use Rattle.theory_deal.specs.Finished.{Oracle, accepts, oracle_by, Agrees, AllOpen}
+use Rattle.theory_deal.specs.Finished.{Oracle, accepts, oracle_by, Agrees, KeysAgree, AllInputsOpen, AllOpen}
 
 -- ---- refusals
 
@@ -36,7 +37,7 @@ pub record IsComplete (hash : List ℕ → List ℕ) (keys : Keys) (s : Instance
   -- of the initial transaction every endorsement
   pub endorsed : l.which ≡ names.Init → may_start hash keys s given ≡ true
   -- every signature
-  pub signed : list_all (has hash keys given) (listed_slots s.advert l) ≡ true
+  pub signed : list_all (has hash keys given) (listed_slots keys s.advert l) ≡ true
   -- every secret that its branch reveals
   pub shown : list_all (λ name. is_some (string_for strings name)) (revealed_by (which_branch s l.which)) ≡ true
   -- and its predicate is true of them
@@ -54,19 +55,27 @@ FinishesExactly =
 abbrev pub AreRead : (List ℕ → List ℕ) → Keys → Instance → List Shown → Type 0
 AreRead hash keys s strings = (strings ≡ []) ⊎ ((text : List ℕ) × (read_secrets hash keys s text ≡ shows strings))
 
--- what is printed is the plan's transaction with witnesses on which every input's script is true, for every oracle that accepts the given
--- signatures, and so for the verifier that read them; the initial one is printed only where every endorsement is there
+-- what is printed is the plan's transaction, with witnesses on which the script is true of every input that keys of the deal sign; the initial
+-- one is printed only where every endorsement is there
 pub record IsFinished (v : Verifier) (hash : List ℕ → List ℕ) (keys : Keys) (s : Instance) (given : List Signed) (strings : List Shown)
     (l : Listed) : Type 0 where
   pub printed : finished_answer hash keys s l given strings
       ≡ prints 0 (hex_text (spelling (finished hash keys s given strings l)) ++ newline)
   pub planned : stripped (finished hash keys s given strings l) ≡ stripped (tx_of l.pending)
-  pub opens : (oracle : Oracle) → accepts hash keys s given oracle l ≡ true
+  -- of all inputs, the scripts of those that keys of the deal sign are true, for every oracle that accepts the given signatures, and those of
+  -- wallets have what was handed in
+  pub inputs_open : (oracle : Oracle) → accepts hash keys s given oracle l ≡ true
+      → AllInputsOpen hash keys s given oracle l (witnesses hash keys s given strings l l.which)
+  pub inputs_verified : AllInputsOpen hash keys s given (oracle_by v hash l) l (witnesses hash keys s given strings l l.which)
+  pub inputs_agreed : (oracle : Oracle) → KeysAgree v hash keys s l oracle
+      → AllInputsOpen hash keys s given oracle l (witnesses hash keys s given strings l l.which)
+  -- so where all deposits are of keys all scripts are true
+  pub opens : AreKeyDeposits keys → (oracle : Oracle) → accepts hash keys s given oracle l ≡ true
       → AllOpen hash oracle 0 l.pending.spends (witnesses hash keys s given strings l l.which)
   -- by the verifier itself, with nothing asked of it
-  pub verified : AllOpen hash (oracle_by v hash l) 0 l.pending.spends (witnesses hash keys s given strings l l.which)
+  pub verified : AreKeyDeposits keys → AllOpen hash (oracle_by v hash l) 0 l.pending.spends (witnesses hash keys s given strings l l.which)
   -- and by every oracle that takes what it finds good
-  pub agreed : (oracle : Oracle) → Agrees v hash l oracle
+  pub agreed : AreKeyDeposits keys → (oracle : Oracle) → Agrees v hash l oracle
       → AllOpen hash oracle 0 l.pending.spends (witnesses hash keys s given strings l l.which)
   pub endorsed : l.which ≡ names.Init → may_start hash keys s given ≡ true
 

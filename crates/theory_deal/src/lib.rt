@@ -6,13 +6,16 @@
 ghost use Rattle.theory_deal.specs.Accepted.{VerdictByBook, AcceptedTheorem};
 ghost use Rattle.theory_deal.specs.Asked.{DealsAsk};
 ghost use Rattle.theory_deal.specs.Causes.{DealCausesTheorem};
-ghost use Rattle.theory_deal.specs.DealLines.{DealFilesAreRead};
+ghost use Rattle.theory_deal.specs.Circles.{NoneIsCircular};
+ghost use Rattle.theory_deal.specs.DealLines.{DealFilesAreRead, PartsAreRead};
 ghost use Rattle.theory_deal.specs.Ecdsa.{IsEcdsa};
-ghost use Rattle.theory_deal.specs.Files.{DealsAreSized, DealsGiveAll, KeysArePoints, SecretsFit, SignaturesAreShaped, SignaturesVerify};
+ghost use Rattle.theory_deal.specs.Files.{DealsAreSized, DealsGiveAll, KeysArePoints, ScriptsArePayable, SecretsFit, SignaturesAreShaped};
+ghost use Rattle.theory_deal.specs.Files.{SignaturesVerify, KeysAreGiven, WitnessesVerify};
 ghost use Rattle.theory_deal.specs.FinishAnswers.{FinishAnswers};
-ghost use Rattle.theory_deal.specs.Finished.{FinishedOpens, FinishedIsPlanned, FalseWithoutOne};
+ghost use Rattle.theory_deal.specs.Finished.{InputsOpened, FinishedOpens, FinishedIsPlanned, FalseWithoutOne};
 ghost use Rattle.theory_deal.specs.ForSigners.{FilesForSigners};
 ghost use Rattle.theory_deal.specs.NothingTwice.{NothingTwice};
+ghost use Rattle.theory_deal.specs.Plain.{PlainDeals};
 ghost use Rattle.theory_deal.specs.Plan.{PlanOfRuns};
 ghost use Rattle.theory_deal.specs.Printed.{ReadAgainTheorem};
 ghost use Rattle.theory_deal.specs.Scripts.{ScriptsAsk};
@@ -23,11 +26,14 @@ ghost use Rattle.theory_deal.specs.Signatures.{MissingAndHeld, MayStart};
 ghost use Rattle.theory_deal.specs.Signing.{AsksExactly, EndorsementsOfRuns, HeldAndMissing};
 ghost use Rattle.theory_deal.specs.SigningOrder.{SignaturesInOrder};
 ghost use Rattle.theory_deal.specs.Transactions.{DealsHash, TransactionsOfDeals};
+ghost use Rattle.theory_deal.specs.Used.{KeysAreUsed};
+ghost use Rattle.theory_deal.specs.Weights.{AreLight};
 ghost use Rattle.theory_deal.specs.Whole.{FinishesExactly, FinishTheorem};
 
 use theory_script::any_keys::paths_in_order;
 
-/// A signature is listed as missing exactly where a transaction needs it and it isn't there, and as held exactly where it is.
+/// A signature is listed as missing exactly where a transaction needs it and it isn't there, as held exactly where it is, and as not verified
+/// exactly where it is a wallet's endorsement that is there.
 pub fn missing_and_held()
     ensures { MissingAndHeld }
 {}
@@ -39,7 +45,7 @@ pub fn transactions_of_deals()
     paths_in_order();
 }
 
-/// What is hashed for a deal are the scripts of deposits, and then what is hashed to compile its contract at given keys.
+/// What is hashed for a deal are the scripts of keys of deposits that are used, and then what is hashed to compile its contract at given keys.
 pub fn deals_hash()
     ensures { DealsHash }
 {}
@@ -56,7 +62,7 @@ pub fn asks_exactly()
     ensures { AsksExactly }
 {}
 
-/// The script of an input asks for the key of each signature that is needed of it.
+/// The script of an input asks for the key of each signature by a key that is needed of it.
 pub fn scripts_ask()
     ensures { ScriptsAsk }
 {}
@@ -95,12 +101,20 @@ pub fn may_start()
     ensures { MayStart }
 {}
 
-/// Without its deposits and signers, the plan of a deal is what `bitml` prints of the same contract at the same keys.
+/// Without its deposits, payees and signers, the plan of a deal with deposits of keys is what `bitml` prints of the same contract at the same
+/// keys.
 pub fn plan_of_runs()
     ensures { PlanOfRuns }
 {}
 
-/// Where a transaction is finished, every oracle of signatures that accepts the given ones finds the scripts of all its inputs true.
+/// Where a transaction is finished, the scripts of all inputs that keys of the deal sign are true for every oracle of signatures that
+/// accepts the given ones, and those of wallets have what was handed in.
+pub fn inputs_opened()
+    ensures { InputsOpened }
+{}
+
+/// Where a transaction is finished and all deposits are of keys, every oracle of signatures that accepts the given ones finds the
+/// scripts of all its inputs true.
 pub fn finished_opens()
     ensures { FinishedOpens }
 {}
@@ -130,10 +144,21 @@ pub fn signatures_are_shaped()
     ensures { SignaturesAreShaped }
 {}
 
-/// Each signature of a file that is taken verifies under its key, for the digest of its input; so the initial transaction may be signed
-/// exactly where every endorsement is there and verifies.
+/// Each signature by a key, of a file that is taken, verifies under its key, for the digest of its input; so the initial transaction may be
+/// signed exactly where every endorsement is there, and each by a key verifies.
 pub fn signatures_verify()
     ensures { SignaturesVerify }
+{}
+
+/// The keys that sign in a deal that is taken are given.
+pub fn keys_are_given()
+    ensures { KeysAreGiven }
+{}
+
+/// Each witness of a file that is taken is of an input that a wallet signs, has the form that spends the wallet's output, and verifies as
+/// far as that is known.
+pub fn witnesses_verify()
+    ensures { WitnessesVerify }
 {}
 
 /// Each string of a file of secrets that is taken fits its secret.
@@ -153,14 +178,29 @@ pub fn deal_files_are_read()
     ensures { DealFilesAreRead }
 {}
 
+/// A deal file that may lack lines comes to what its lines come to, each by its words.
+pub fn parts_are_read()
+    ensures { PartsAreRead }
+{}
+
 /// A file of secrets comes to what its lines come to, each by its words; it is refused at its first bad line, by the first reason there.
 pub fn secret_files_are_read()
     ensures { SecretFilesAreRead }
 {}
 
-/// A deal that is taken gives all that its contract needs, in order.
+/// A deal that is taken gives all that it uses of what its contract needs, in order.
 pub fn deals_give_all()
     ensures { DealsGiveAll }
+{}
+
+/// A deal isn't circular exactly where its own transactions make none of its deposits, and nobody is paid at one of its positions.
+pub fn none_is_circular()
+    ensures { NoneIsCircular }
+{}
+
+/// A file without networks, payees and scripts gives a deal whose texts have no payees, no addresses and no wallets.
+pub fn plain_deals()
+    ensures { PlainDeals }
 {}
 
 /// No two lines of a deal file that is taken give the same.
@@ -178,9 +218,19 @@ pub fn deals_are_sized()
     ensures { DealsAreSized }
 {}
 
+/// The key of a party's deposits is needed exactly where one of them has no wallet or a withdraw pays the key.
+pub fn keys_are_used()
+    ensures { KeysAreUsed }
+{}
+
 /// The keys of a deal that is taken are points.
 pub fn keys_are_points()
     ensures { KeysArePoints }
+{}
+
+/// The output scripts that a deal that is taken gives are of kinds that deposits and participants may have.
+pub fn scripts_are_payable()
+    ensures { ScriptsArePayable }
 {}
 
 /// A transaction is finished exactly where nothing is missing that it needs.
@@ -216,4 +266,9 @@ pub fn finish_answers()
 /// Each status of the program for deals comes by its cause, the first of them in their order.
 pub fn deal_statuses_have_causes()
     ensures { DealCausesTheorem }
+{}
+
+/// No finished transaction weighs more than 50,000 whose wallets are those of keys.
+pub fn are_light()
+    ensures { AreLight }
 {}

@@ -1,6 +1,6 @@
 -- Each status of the program for deals on a chain comes by its cause.
 use Rattle.std.proofs.Common.{◌≡◌, ℕ, ◌↔◌, Bool, true, false, List, [], ◌∷◌, Option, Some, None, refl, sym, subst, cond, arith}
-use Rattle.std.specs.Prelude.{◌==◌, ◌&&◌}
+use Rattle.std.specs.Prelude.{◌==◌}
 use Rattle.std.specs.List.{list_all}
 use Rattle.std.proofs.lemmas.Bool.{false≢true, and_parts, or_right}
 use Rattle.spec_data.specs.Lists.{has_number}
@@ -34,6 +34,10 @@ module _ (t : DealCausesTheorem) (v : Verifier) (hash : List ℕ → List ℕ) w
   others (commands.on_deal command) texts =
       or_right (17 == status_of (commands.on_deal command) texts) (has_number (status_of (commands.on_deal command) texts) deal_statuses)
       (t.others v hash command texts)
+  others (commands.show contract deal) texts =
+      let command = commands.show contract deal in
+      subst (λ (n : ℕ). has_number n chain_statuses ≡ true) (sym (in_order t v hash command texts))
+      (among chain_statuses (causes v hash command texts) refl refl)
   others (commands.state contract deal chain signatures) texts =
       let command = commands.state contract deal chain signatures in
       subst (λ (n : ℕ). has_number n chain_statuses ≡ true) (sym (in_order t v hash command texts))

@@ -14,13 +14,13 @@ use Rattle.spec_deal.specs.declared.entry.Shown.{Shown}
 use Rattle.spec_deal.specs.declared.fault.DealFault.{DealFault}
 use Rattle.spec_deal.specs.declared.fault.SignatureFault.{SignatureFault}
 use Rattle.spec_deal.specs.declared.signed.Signed.{Signed}
-use Rattle.spec_deal.specs.Answers as deals
-use Rattle.spec_deal.specs.Answers.{with_advert, with_deal, deal_in, with_signatures, with_secrets, signatures_in}
+use Rattle.spec_deal.specs.Answers.{with_advert, with_deal, with_shown_deal, deal_in, with_signatures, with_secrets, signatures_in}
 use Rattle.spec_deal.specs.Answers.{unless_circular, unless_collided, circular}
 use Rattle.spec_deal.specs.Hashed.{deal_strings}
 use Rattle.spec_deal.specs.SecretFile.{SecretsRead, shows, refused, collided}
 use Rattle.spec_deal.specs.Setting.{deal_keys, deal_instance}
 use Rattle.spec_deal.specs.Verifier.{Verifier}
+use Rattle.spec_show.specs.ShowText.{show_text}
 use Rattle.spec_chain.specs.Answers.{told_in, with_course, stood_answer, course_answer, course_with_answer, state_answer, state_with_answer}
 use Rattle.spec_chain.specs.Answers.{chain_text_answer}
 use Rattle.spec_chain.specs.Chain as chain
@@ -29,7 +29,7 @@ use Rattle.spec_chain.specs.Commands as commands
 use Rattle.spec_chain.specs.Commands.{ChainCommand}
 use Rattle.theory_deal.specs.Causes.{Cause, DealCausesTheorem, if_read, if_taken, is_unread, do_collide, is_circular, are_bad, have_collided}
 use Rattle.theory_deal.specs.Causes.{first_status}
-use Rattle.theory_state.specs.Causes.{is_refused, is_collided, chain_of, told_behind, state_causes, causes_on_chain, causes}
+use Rattle.theory_state.specs.Causes.{is_refused, is_collided, chain_of, told_behind, state_causes, causes}
 
 -- ---- where a deal stands
 
@@ -80,14 +80,35 @@ module _ (v : Verifier) (hash : List ℕ → List ℕ) (signatures : Text) (keys
 
 -- ---- the deal
 
-module _ (v : Verifier) (hash : List ℕ → List ℕ) (chain signatures : Text) (secrets : Option Text) where
-  by_circle : (c : Option (List ℕ × List ℕ)) (o : Option (List ℕ)) (printed : Printed) (later : List Cause)
-      → printed.status ≡ first_status later
-      → (unless_collided c (unless_circular o printed)).status ≡ first_status ((is_some c, 8) ∷ (is_some o, 13) ∷ later)
-  by_circle (Some pair) o printed later h = refl
-  by_circle None (Some name) printed later h = refl
-  by_circle None None printed later h = h
+by_circle : (c : Option (List ℕ × List ℕ)) (o : Option (List ℕ)) (printed : Printed) (later : List Cause)
+    → printed.status ≡ first_status later
+    → (unless_collided c (unless_circular o printed)).status ≡ first_status ((is_some c, 8) ∷ (is_some o, 13) ∷ later)
+by_circle (Some pair) o printed later h = refl
+by_circle None (Some name) printed later h = refl
+by_circle None None printed later h = h
 
+module _ (v : Verifier) (hash : List ℕ → List ℕ) (text : Option (List ℕ) → Keys → Instance → List ℕ) where
+  abbrev shown : Option (List ℕ) → Keys → Instance → Printed
+  shown network keys s = record { status = 0; text = text network keys s }
+
+  shown_deal : (advert : Advert) (r : Result Deal DealFault)
+      → (with_shown_deal hash shown advert r).status
+      ≡ first_status ((is_err r, 13) ∷ (if_read (do_collide hash) advert r, 8) ∷ (if_read (is_circular hash) advert r, 13) ∷ [])
+  shown_deal advert (Err fault) = refl
+  shown_deal advert (Ok deal) =
+      let keys = deal_keys deal in
+      let s = deal_instance advert deal in
+      by_circle (collision hash [] (deal_strings hash keys s)) (circular hash keys s) (shown deal.network keys s) [] refl
+
+  -- where the deal is shown
+  shown_first : (r : Judged Advert) (file : Text)
+      → (with_advert (λ advert. with_shown_deal hash shown advert (deal_in v advert file)) r).status
+      ≡ first_status ((is_err r, 1) ∷ (is_unread v r file, 13) ∷ (if_taken v (do_collide hash) r file, 8)
+      ∷ (if_taken v (is_circular hash) r file, 13) ∷ [])
+  shown_first (Ok advert) file = shown_deal advert (deal_in v advert file)
+  shown_first (Err why) file = refl
+
+module _ (v : Verifier) (hash : List ℕ → List ℕ) (chain signatures : Text) (secrets : Option Text) where
   abbrev on_deal_causes : ((Keys → Instance → Bool) → Bool) → List Cause
   on_deal_causes so = (so (do_collide hash), 8) ∷ (so (is_circular hash), 13) ∷ state_causes v hash chain signatures secrets so
 
@@ -114,6 +135,8 @@ module _ (v : Verifier) (hash : List ℕ → List ℕ) (chain signatures : Text)
 pub in_order : DealCausesTheorem → (v : Verifier) (hash : List ℕ → List ℕ) (command : ChainCommand) (texts : List Text)
     → (chain_text_answer v hash command texts).status ≡ first_status (causes v hash command texts)
 in_order t v hash (commands.on_deal command) texts = t.in_order v hash command texts
+in_order t v hash (commands.show contract deal) texts =
+    shown_first v hash (show_text hash) (contract_in (text_at texts 0)) (text_at texts 1)
 in_order t v hash (commands.state contract deal chain signatures) texts =
     by_both v hash (text_at texts 2) (text_at texts 3) None (state_answer v hash (text_at texts 2) (text_at texts 3))
     (λ keys s. course_first v hash (text_at texts 3) keys s (chain_of hash (text_at texts 2) keys s))

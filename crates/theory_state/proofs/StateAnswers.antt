@@ -1,5 +1,5 @@
 -- What `state` prints with status 0 says where the deal stands, and that is so.
-use Rattle.std.proofs.Common.{◌≡◌, ℕ, List, [], true, Option, Some, None, refl, sym, subst}
+use Rattle.std.proofs.Common.{◌≡◌, ℕ, List, [], true, Option, Some, None, refl, subst}
 use Rattle.std.specs.Prelude.{Result, Ok, Err}
 use Rattle.spec_data.specs.Hashes.{HashesBytes}
 use Rattle.spec_data.specs.Messages.{collision}
@@ -28,9 +28,7 @@ use Rattle.spec_chain.specs.Answers.{told_in, with_course, stood_answer, course_
 use Rattle.spec_chain.specs.Chain as chain
 use Rattle.spec_chain.specs.Chain.{Course, Followed, stands, follow_chain}
 use Rattle.spec_chain.specs.Commands as commands
-use Rattle.spec_chain.specs.StateText.{state_text}
 use Rattle.theory_deal.specs.Finished.{do_fit}
-use Rattle.theory_deal.proofs.OfKeys.{deal_of_keys}
 use Rattle.theory_deal.proofs.ReadSecrets.{behind_fit}
 use Rattle.theory_deal.proofs.ReadSignatures.{signatures_are_shaped}
 use Rattle.theory_deal.proofs.WellFormed.{well_formed}
@@ -40,7 +38,7 @@ use Rattle.theory_chain.specs.Follows.{HistoryStays}
 use Rattle.theory_chain.specs.Ledgers.{CanIsAccepted}
 use Rattle.theory_chain.specs.Nevers.{NeverComes}
 use Rattle.theory_chain.specs.Prospects.{CanExactly, CanOpens, GoneNeverComes, KnownFit, SuppliedComes}
-use Rattle.theory_chain.specs.Requirements.{RequirementsExactly}
+use Rattle.theory_chain.specs.Requirements.{RequirementsExactly, UnverifiedExactly}
 use Rattle.theory_chain.specs.Runs.{ChainsAreRuns}
 use Rattle.theory_chain.proofs.Deals.Taken.{whole_deal}
 use Rattle.theory_state.specs.Causes.{chain_of, told_behind}
@@ -53,6 +51,7 @@ pub record Theorems : Type 0 where
   pub fit : KnownFit
   pub can : CanExactly
   pub exactly : RequirementsExactly
+  pub unverified : UnverifiedExactly
   pub supplied : SuppliedComes
   pub opens : CanOpens
   pub accepted : CanIsAccepted
@@ -122,10 +121,11 @@ module _ (t : Theorems) (v : Verifier) (hash : List ℕ → List ℕ) (bytes : H
         so = λ which l there. record {
           can = t.can hash keys s given _ course.state tip which l there;
           exactly = λ requirement. t.exactly hash keys s given _ course.state tip which l requirement there;
+          unverified = λ slot. t.unverified hash keys s given which slot;
           supplied = λ supplied. t.supplied hash keys s given _ course.state tip which l there supplied;
         };
         opens = λ which l oracle there none accepts.
-            t.opens hash keys s text course tip given strings which l oracle whole.are_keys (deal_of_keys deal) whole.applied
+            t.opens hash keys s text course tip given strings which l oracle whole.are_keys whole.applied
             (signatures_are_shaped v hash keys s file given signed).short fit followed there none accepts;
         accepted = λ which l oracle ledger there is_asked none accepts live at_tip.
             t.accepted v hash advert deal text file course tip given strings which l oracle ledger is_deal followed signed fit there
@@ -265,6 +265,7 @@ module _ (t : Theorems) (v : Verifier) (hash : List ℕ → List ℕ) (bytes : H
 
 pub state_answers : Theorems → StateAnswers
 state_answers t v hash (commands.on_deal command) texts bytes = tt
+state_answers t v hash (commands.show contract deal) texts bytes = tt
 state_answers t v hash (commands.state contract deal chain signatures) texts bytes =
     all_good t v hash bytes texts None (state_answer v hash (text_at texts 2) (text_at texts 3))
     (λ advert deal c d clear unmade.

@@ -55,19 +55,26 @@ state_causes v hash chain signatures secrets so =
     ∷ (so (λ keys s. have_collided (told_behind hash s secrets (chain_of hash chain keys s))), 8)
     ∷ []
 
--- of a contract and a deal: one is refused, strings of the compiled deal collide, it makes one of its own deposits; and those of the chain
-abbrev pub causes_on_chain : Verifier → (List ℕ → List ℕ) → List Text → Option Text → List Cause
-causes_on_chain v hash texts secrets =
+-- of a contract and a deal: one is refused, strings of the compiled deal collide, it makes one of its own deposits or pays to one of its
+-- positions; and those of what is done with it
+abbrev pub causes_of_deal : Verifier → (List ℕ → List ℕ) → List Text → List Cause → List Cause
+causes_of_deal v hash texts later =
     (is_err (contract_in (text_at texts 0)), 1)
     ∷ (is_unread v (contract_in (text_at texts 0)) (text_at texts 1), 13)
     ∷ (if_taken v (do_collide hash) (contract_in (text_at texts 0)) (text_at texts 1), 8)
     ∷ (if_taken v (is_circular hash) (contract_in (text_at texts 0)) (text_at texts 1), 13)
-    ∷ state_causes v hash (text_at texts 2) (text_at texts 3) secrets
-    (λ test. if_taken v test (contract_in (text_at texts 0)) (text_at texts 1))
+    ∷ later
+
+abbrev pub causes_on_chain : Verifier → (List ℕ → List ℕ) → List Text → Option Text → List Cause
+causes_on_chain v hash texts secrets =
+    causes_of_deal v hash texts
+    (state_causes v hash (text_at texts 2) (text_at texts 3) secrets
+    (λ test. if_taken v test (contract_in (text_at texts 0)) (text_at texts 1)))
 
 -- of a command
 abbrev pub causes : Verifier → (List ℕ → List ℕ) → ChainCommand → List Text → List Cause
 causes v hash (commands.on_deal command) texts = deal_causes v hash command texts
+causes v hash (commands.show contract deal) texts = causes_of_deal v hash texts []
 causes v hash (commands.state contract deal chain signatures) texts = causes_on_chain v hash texts None
 causes v hash (commands.state_with contract deal chain signatures secrets) texts = causes_on_chain v hash texts (Some (text_at texts 4))
 

@@ -13,20 +13,20 @@ use Rattle.spec_deal.specs.declared.entry.Shown.{Shown}
 use Rattle.spec_deal.specs.declared.signed.Signed.{Signed}
 use Rattle.spec_deal.specs.Finished.{finished, witnesses}
 use Rattle.spec_deal.specs.Setting.{deal_keys, deal_instance}
+use Rattle.spec_deal.specs.Slots.{Slot}
 use Rattle.spec_deal.specs.Transactions.{transactions}
 use Rattle.spec_chain.specs.declared.happened.Happened.{Happened}
 use Rattle.spec_chain.specs.declared.reading.Confirmed.{Confirmed}
 use Rattle.spec_chain.specs.declared.requirement.Requirement.{Requirement}
 use Rattle.spec_chain.specs.declared.requirement.Requirement.TheVariants as requirements
 use Rattle.spec_chain.specs.Chain.{Course, stands, follow_chain}
-use Rattle.spec_chain.specs.Outstanding.{asked, known, outstanding, deposits_outstanding, is_never}
-use Rattle.theory_deal.specs.Accepted.{judged_verdict, accepted_on}
-use Rattle.theory_deal.specs.Finished.{Oracle, accepts, do_fit, AllOpen}
+use Rattle.spec_chain.specs.Outstanding.{asked, known, unverified_for, outstanding, deposits_outstanding, is_never}
+use Rattle.theory_deal.specs.Finished.{Oracle, accepts, do_fit}
 use Rattle.theory_chain.specs.Aside.{IsAside, IsReadOver}
-use Rattle.theory_chain.specs.Ledgers.{HasLive}
+use Rattle.theory_chain.specs.Ledgers.{HasLive, IsAcceptedBy}
 use Rattle.theory_chain.specs.Nevers.{HaveOneHash}
-use Rattle.theory_chain.specs.Prospects.{CanCome, IsSupplied}
-use Rattle.theory_chain.specs.Requirements.{IsOutstanding}
+use Rattle.theory_chain.specs.Prospects.{CanCome, IsSupplied, IsOpened}
+use Rattle.theory_chain.specs.Requirements.{IsOutstanding, IsCountedOn}
 use Rattle.theory_chain.specs.Runs.{IsRun}
 
 -- ---- what may come
@@ -44,28 +44,31 @@ pub record IsSoOf (hash : List ℕ → List ℕ) (keys : Keys) (s : Instance) (c
   -- each line below `cannot` stands exactly where what it says is missing
   pub exactly : (requirement : Requirement) → Contains (missing_for hash keys s course tip given strings which) requirement
       ↔ IsOutstanding hash keys s given (known course.state strings) course.state tip which l requirement
+  -- each line `unverified` below `can` stands exactly where it counts on the witness of a wallet
+  pub unverified : (slot : Slot) → Contains (unverified_for hash keys s given which) slot ↔ IsCountedOn hash keys s given which slot
   -- where all that may be missing is supplied, nothing is, or its predicate is false
   pub supplied : IsSupplied hash keys s given (known course.state strings) course.state tip which l
       → (missing_for hash keys s course tip given strings which ≡ [])
       ⊎ (missing_for hash keys s course tip given strings which ≡ requirements.PredicateFalse ∷ [])
 
--- where `can` stands, its witnesses open what it spends, for every oracle that accepts the given signatures
+-- where `can` stands, its witnesses open what it spends, for every oracle that accepts the given signatures, but what wallets bring: there
+-- they are those that were handed in
 abbrev pub AreOpened : (List ℕ → List ℕ) → Keys → Instance → Course → ℕ → List Signed → List Shown → Type 0
 AreOpened hash keys s course tip given strings =
     (which : Which) (l : Listed) (oracle : Oracle)
     → listed_at hash keys s which ≡ Some l → missing_for hash keys s course tip given strings which ≡ []
     → accepts hash keys s given oracle l ≡ true
-    → AllOpen hash oracle 0 l.pending.spends (witnesses hash keys s given (known course.state strings) l l.which)
+    → IsOpened hash keys s given oracle l (witnesses hash keys s given (known course.state strings) l l.which)
 
--- where `can` stands for what is asked, each ledger that has what is live accepts it at the tip, for every such oracle
+-- where `can` stands for what is asked, each ledger that has what is live accepts it at the tip, for every such oracle, and consensus that
+-- takes the witnesses of wallets
 abbrev pub AreAccepted : (List ℕ → List ℕ) → Keys → Instance → Course → ℕ → List Signed → List Shown → Type 0
 AreAccepted hash keys s course tip given strings =
     (which : Which) (l : Listed) (oracle : Oracle) (chain : Chain)
     → listed_at hash keys s which ≡ Some l → Contains (asked s course.state) which
     → missing_for hash keys s course tip given strings which ≡ [] → accepts hash keys s given oracle l ≡ true
-    → HasLive hash course.state l chain.live → chain.tip ≡ tip
-    → judged_verdict hash oracle chain (finished hash keys s given (known course.state strings) l)
-    ≡ accepted_on chain (finished hash keys s given (known course.state strings) l)
+    → HasLive hash keys s course.state l chain.live → chain.tip ≡ tip
+    → IsAcceptedBy hash keys s l oracle chain (finished hash keys s given (known course.state strings) l)
 
 -- ---- further lines
 

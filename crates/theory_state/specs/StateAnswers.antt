@@ -42,6 +42,7 @@ pub record IsStateText (v : Verifier) (hash : List ℕ → List ℕ) (texts : Li
 -- where a command asks it, with status 0
 abbrev pub IfStands : Verifier → (List ℕ → List ℕ) → ChainCommand → List Text → Printed → Type 0
 IfStands v hash (commands.on_deal command) texts printed = Unit {0}
+IfStands v hash (commands.show contract deal) texts printed = Unit {0}
 IfStands v hash (commands.state contract deal chain signatures) texts printed =
     printed.status ≡ 0 → IsStateText v hash texts None printed.text
 IfStands v hash (commands.state_with contract deal chain signatures secrets) texts printed =

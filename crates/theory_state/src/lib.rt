@@ -8,6 +8,7 @@ ghost use Rattle.theory_state.specs.StateAnswers.{StateAnswers};
 use theory_chain::{
     can_exactly, can_is_accepted, can_opens, chains_are_runs, gone_never_comes, history_stays,
     known_fit, never_comes, others_are_read_over, requirements_exactly, supplied_comes,
+    unverified_exactly,
 };
 use theory_deal::deal_statuses_have_causes;
 
@@ -27,6 +28,7 @@ pub fn state_answers()
     known_fit();
     can_exactly();
     requirements_exactly();
+    unverified_exactly();
     supplied_comes();
     can_opens();
     can_is_accepted();

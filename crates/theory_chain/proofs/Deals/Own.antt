@@ -29,10 +29,12 @@ use Rattle.spec_tool.specs.declared.which.Which.{Which}
 use Rattle.spec_tool.specs.declared.which.Which.TheVariants as names
 use Rattle.spec_tool.specs.Keyed.Listed.{Listed, initial_listed, path_listed, listed, listed_at, same_which}
 use Rattle.spec_deal.specs.declared.transaction.Transaction.{Transaction}
+use Rattle.spec_deal.specs.declared.transaction.Wallet.{Wallet}
 use Rattle.spec_deal.specs.SignatureFile.{has_bytes}
 use Rattle.spec_deal.specs.Finished.{choices_at}
 use Rattle.spec_deal.specs.Needed.{needed_deposits}
-use Rattle.spec_deal.specs.Transactions.{inputs, transaction, transactions}
+use Rattle.spec_deal.specs.Transactions.{input, input_with, inputs, transaction, transactions}
+use Rattle.spec_deal.specs.Wallets.{input_wallet}
 use Rattle.theory_bitcoin.specs.Apart.{bare, bare_input}
 use Rattle.theory_bitcoin.proofs.Apart.{stripped_once}
 use Rattle.theory_calculus.specs.Members.{Is_in}
@@ -45,7 +47,7 @@ use Rattle.spec_chain.specs.declared.fault.ChainReason.TheVariants as reasons
 use Rattle.spec_chain.specs.declared.output.Output.{Output}
 use Rattle.spec_chain.specs.Outputs.{has_place, without, is_there, position_outputs, deal_outputs, transaction_named, position_of}
 use Rattle.spec_chain.specs.Following.{State, own_transaction, which_of, which_shown, selected}
-use Rattle.spec_chain.specs.Refusals.{input_row, inputs_reason, lock_reason, opens, witnesses_reason, branch_reason, own_reason, refusal}
+use Rattle.spec_chain.specs.Refusals.{input_row, inputs_reason, lock_reason, opens, opens_input, witnesses_reason, branch_reason, own_reason, refusal}
 use Rattle.theory_chain.proofs.Exactly.{there_by_name}
 use Rattle.theory_chain.proofs.Deals.Whole.{Whole, from_map, in_map, planned_bare}
 use Rattle.theory_chain.proofs.Deals.Positions.{path_named}
@@ -331,19 +333,26 @@ module _ (hash : List ℕ → List ℕ) (keys : Keys) (s : Instance) where
           head_same : {X : Type 0} {a b : X} {as' bs' : List X} → a ∷ as' ≡ b ∷ bs' → a ≡ b
           head_same f = cc
 
+          -- no wallet brings it
+          position_input : (x : Spent) (labels : List Label) (witness : List (List ℕ))
+              → opens_input hash (input hash keys s.advert l 0 x labels) witness ≡ true → opens hash x.script witness ≡ true
+          position_input x labels witness k =
+              subst (λ (o : Option Wallet). opens_input hash (input_with hash keys s.advert l o x labels) witness ≡ true)
+              (ap (λ (w : Which). input_wallet keys s.advert w 0) named) k
+
           by_spends : (xs : List Spent) (ls : List (List Label)) (is : List TxIn)
               → xs ≡ first.here.output ∷ put_deposits hash keys s (puts_of (core first.b))
               → map (λ (i : TxIn). i.prev) is ≡ map (λ (x : Spent). x.outpoint) xs
-              → witnesses_reason hash 0 (inputs hash keys s.advert l xs ls) is ≡ None
+              → witnesses_reason hash 0 (inputs hash keys s.advert l 0 xs ls) is ≡ None
               → opens hash first.here.output.script (first_witness is) ≡ true
           by_spends [] ls is f g k = absurd (none_there _ _ f)
           by_spends (x ∷ xs) ls [] f g k = absurd (none_spent _ _ g)
           by_spends (x ∷ xs) [] (i ∷ is) f g k =
               subst (λ (y : Spent). opens hash y.script i.witness ≡ true) (head_same f)
-              (by_opened 0 _ (opens hash x.script i.witness) k)
+              (position_input x [] i.witness (by_opened 0 _ (opens_input hash (input hash keys s.advert l 0 x []) i.witness) k))
           by_spends (x ∷ xs) (labels ∷ ls) (i ∷ is) f g k =
               subst (λ (y : Spent). opens hash y.script i.witness ≡ true) (head_same f)
-              (by_opened 0 _ (opens hash x.script i.witness) k)
+              (position_input x labels i.witness (by_opened 0 _ (opens_input hash (input hash keys s.advert l 0 x labels) i.witness) k))
 
       path_own : Takes state height tx
       path_own =

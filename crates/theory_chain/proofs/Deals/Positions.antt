@@ -398,7 +398,7 @@ module _ (hash : List ℕ → List ℕ) (keys : Keys) (s : Instance) where
         let label = whole.keys_apart (branch_label s.contract (branch_path q 0) a.0.person) (branch_label s.contract (branch_path r 0) b.0.person)
         (label_fits (branch_path q 0) (at_branch here 0 a.1) a.0.person end_a) (label_fits (branch_path r 0) (at_branch there 0 b.1) b.0.person end_b)
         (label_needed (branch_path q 0) _ a.0.person (transaction_there (branch_path q 0) here 0 a.1 end_a) a.0.among)
-        (label_needed (branch_path r 0) _ b.0.person (transaction_there (branch_path r 0) there 0 b.1 end_b) b.0.among) key in
+        (label_needed (branch_path r 0) _ b.0.person (transaction_there (branch_path r 0) there 0 b.1 end_b) b.0.among) refl refl key in
         append_cancel_right q r (To 0 ∷ []) (ap path_in label)
 
     -- ---- places

@@ -13,7 +13,6 @@ use Rattle.spec_deal.specs.Setting.{deal_keys, deal_instance}
 use Rattle.spec_deal.specs.Verifier.{Verifier}
 use Rattle.theory_bitcoin.proofs.Labels.{one_label}
 use Rattle.theory_world.proofs.Hashed.{no_collision_none, no_collision}
-use Rattle.theory_deal.proofs.OfKeys.{deal_of_keys, deal_payable}
 use Rattle.theory_deal.proofs.ReadAgain.{fits}
 use Rattle.theory_deal.proofs.ReadDeals.{deals_are_sized}
 use Rattle.theory_deal.proofs.WholeDeals.{deals_give_all}
@@ -45,7 +44,7 @@ whole_deal v hash advert deal d =
       number = refl;
       are_keys = sized.are_keys;
       applied = sized.applied d.checked;
-      keys_apart = λ a b fa fb ia ib same. one_label a b fa fb (keys_apart v hash advert d.text deal d.read a b ia ib same);
+      keys_apart = λ a b fa fb ia ib ua ub same. one_label a b fa fb (keys_apart v hash advert d.text deal d.read a b ia ib ua ub same);
       apart = record {
         bound = all.deposits;
         apart = places_apart v advert d.text deal d.read;
@@ -55,8 +54,8 @@ whole_deal v hash advert deal d =
           let named = there_by_name hash keys s l h in
           subst (λ (is : List TxIn). IsTransaction (record (tx_of l.pending) { inputs = is })) (without_witnesses l.pending.spends)
           (fits hash keys s d.hashes l.pending [] (funded_at hash keys s d.checked l.which l named)
-          (small_at hash d.hashes keys s (deal_payable deal) d.checked l.which l named)
-          (spendable_at hash d.hashes keys s (sized.applied d.checked) all.deposits widths.places sized.are_keys (deal_of_keys deal) widths.keys
+          (small_at hash d.hashes keys s widths.payees d.checked l.which l named)
+          (spendable_at hash d.hashes keys s (sized.applied d.checked) all.deposits widths.places sized.are_keys widths.wallets widths.keys
           widths.hashes l.which l named) tt);
       clear = no_collision hash [] (deal_strings hash keys s) (no_collision_none hash) d.clear;
     }

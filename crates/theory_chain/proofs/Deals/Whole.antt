@@ -1,5 +1,6 @@
 -- What proofs use of a deal that isn't refused.
 use Rattle.std.proofs.Common.{◌≡◌, ℕ, List, [], ◌∷◌, ◌++◌, map, true, refl, sym, ap, subst, ◌∙◌, inl, inr}
+use Rattle.std.specs.Prelude.{Some, zero, suc, filter, slice_get}
 use Rattle.std.specs.List.{flat_map}
 use Rattle.spec_data.specs.Hashes.{HashesBytes}
 use Rattle.spec_data.specs.Lists.{is_among}
@@ -20,8 +21,11 @@ use Rattle.spec_compiler.specs.Keyed.Keys.{Keys, key_in}
 use Rattle.spec_compiler.specs.Keyed.Statements.{AreKeys}
 use Rattle.spec_compiler.specs.Keyed.Transactions.{tx_of, input_of, initial_unsigned, party_script}
 use Rattle.spec_tool.specs.Keyed.Listed.{Listed, path_listed, listed}
+use Rattle.spec_deal.specs.declared.deal.Needed.TheVariants as needs
+use Rattle.spec_deal.specs.DealFile.{is_used}
 use Rattle.spec_deal.specs.Hashed.{deal_strings}
 use Rattle.spec_deal.specs.Needed.{deal_contract, needed_labels}
+use Rattle.spec_deal.specs.Used.{uses_key}
 use Rattle.theory_bitcoin.specs.Apart.{bare, bare_input}
 use Rattle.theory_bitcoin.proofs.Apart.{stripped_once}
 use Rattle.theory_calculus.specs.Members.{Is_in}
@@ -37,8 +41,9 @@ pub record Whole (hash : List ℕ → List ℕ) (keys : Keys) (s : Instance) : T
   pub number : s.contract ≡ deal_contract
   pub are_keys : AreKeys hash keys
   pub applied : IsApplied s
-  -- no two labels have one key
+  -- no two labels that are used have one key
   pub keys_apart : (a b : Label) → IsLabel a → IsLabel b → Is_in a (needed_labels s.advert) → Is_in b (needed_labels s.advert)
+      → is_used keys s.advert (needs.Key a) ≡ true → is_used keys s.advert (needs.Key b) ≡ true
       → key_in hash keys a ≡ key_in hash keys b → a ≡ b
   -- the deposits lie apart, and where no transaction of the deal pays
   pub apart : AreApart hash keys s
@@ -59,6 +64,21 @@ in_map f [] x h = absurd h
 in_map f (y ∷ xs) x (inl e) = inl (ap f e)
 in_map f (y ∷ xs) x (inr h) = inr (in_map f xs x h)
 
+-- what is in a list stands at some number
+pub stands_at : {X : Type 0} (xs : List X) (x : X) → Is_in x xs → (k : ℕ) × (slice_get xs k ≡ Some x)
+stands_at [] x h = absurd h
+stands_at (y ∷ xs) x (inl e) = (zero, ap Some (sym e))
+stands_at (y ∷ xs) x (inr h) =
+    let r = stands_at xs x h in
+    (suc r.0, r.1)
+
+pub from_stands : {X : Type 0} (xs : List X) (x : X) (k : ℕ) → slice_get xs k ≡ Some x → Is_in x xs
+from_stands [] x k e = cc
+from_stands (y ∷ xs) x zero e =
+    let same : x ≡ y = cc in
+    inl same
+from_stands (y ∷ xs) x (suc k) e = inr (from_stands xs x k e)
+
 pub among_in : (t : List ℕ) (ts : List (List ℕ)) → Is_in t ts → is_among t ts ≡ true
 among_in t [] h = absurd h
 among_in t (u ∷ ts) (inl e) = subst (λ (v : List ℕ). is_among t (v ∷ ts) ≡ true) e (among_head t ts)
@@ -77,7 +97,7 @@ module _ (hash : List ℕ → List ℕ) (keys : Keys) (s : Instance) where
   pub listed_heard : (l : Listed) (t : List ℕ) → Is_in l (listed hash keys s) → is_among t (unsigned_strings hash l.pending) ≡ true
       → is_among t (deal_strings hash keys s) ≡ true
   listed_heard l t h k =
-      among_right t (map (party_script hash keys) (people s)) _ (among_right t (map (λ p. p.1) (scripts hash keys s)) _ (by_place h))
+      among_right t (map (party_script hash keys) (filter (uses_key keys s.advert) (people s))) _ (among_right t (map (λ p. p.1) (scripts hash keys s)) _ (by_place h))
     where
       by_place : Is_in l (listed hash keys s)
           → is_among t (unsigned_strings hash (initial_unsigned hash keys s)
@@ -93,7 +113,7 @@ module _ (hash : List ℕ → List ℕ) (keys : Keys) (s : Instance) where
 
   pub script_heard : (p : List PathStep × List ℕ) → Is_in p (scripts hash keys s) → is_among (p.1) (deal_strings hash keys s) ≡ true
   script_heard p h =
-      among_right (p.1) (map (party_script hash keys) (people s)) _
+      among_right (p.1) (map (party_script hash keys) (filter (uses_key keys s.advert) (people s))) _
       (among_left (p.1) (map (λ q. q.1) (scripts hash keys s)) _
       (among_in (p.1) (map (λ (q : List PathStep × List ℕ). q.1) (scripts hash keys s))
       (in_map (λ (q : List PathStep × List ℕ). q.1) (scripts hash keys s) p h)))

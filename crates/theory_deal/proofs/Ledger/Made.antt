@@ -20,12 +20,13 @@ use Rattle.spec_compiler.specs.Keyed.ByPath.{PathEnd, at_position, at_branch, br
 use Rattle.spec_compiler.specs.Keyed.ByPath.{unsigned_at}
 use Rattle.spec_tool.specs.declared.which.Which.TheVariants as names
 use Rattle.spec_tool.specs.Keyed.Listed.{Listed, initial_listed, path_listed, listed}
-use Rattle.spec_deal.specs.Answers.{is_made_here, circular}
+use Rattle.spec_deal.specs.Answers.{is_made_here, circular_deposit, circular}
 use Rattle.theory_calculus.specs.Members.{Is_in}
 use Rattle.theory_calculus.proofs.Names.{bytes_refl}
 use Rattle.theory_script.proofs.Keyed.Stands.{some_same}
 use Rattle.theory_deal.proofs.Branches.{along}
 use Rattle.theory_deal.proofs.ByName.{none_mapped, listed_in}
+use Rattle.theory_deal.proofs.FinishedOpens.{first_none}
 use Rattle.theory_deal.proofs.Listed.{none_found}
 
 -- what is in a list and passes a test is found
@@ -119,7 +120,7 @@ module _ (hash : List ℕ → List ℕ) (keys : Keys) (s : Instance) where
   pub no_deposit_made : (p : List ℕ × OutPoint) → circular hash keys s ≡ None → Is_in p s.bound → IsMade p.1 → ⊥
   no_deposit_made p none i made =
       let unmade = none_found (λ (q : List ℕ × OutPoint). is_made_here hash keys s (q.1)) s.bound p
-      (none_mapped (λ (q : List ℕ × OutPoint). q.0) _ none) i in
+      (none_mapped (λ (q : List ℕ × OutPoint). q.0) _ (first_none (circular_deposit hash keys s) _ none)) i in
       both_ways _ unmade
       (any_in (λ (l : Listed). bytes_eq (txid hash (tx_of l.pending)) p.1.txid) (listed hash keys s) made.by_which made.among
       (ap (λ x. bytes_eq x p.1.txid) made.id ∙ bytes_refl p.1.txid))

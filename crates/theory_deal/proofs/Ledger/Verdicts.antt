@@ -37,7 +37,7 @@ use Rattle.theory_deal.specs.Accepted.{accepted_on}
 -- ---- witnesses
 
 -- no item before a script is too long
-no_long : (items : List (List ℕ)) → list_all is_short items ≡ true → list_any is_long items ≡ false
+pub no_long : (items : List (List ℕ)) → list_all is_short items ≡ true → list_any is_long items ≡ false
 no_long [] h = refl
 no_long (x ∷ items) h =
     let p = and_parts (is_short x) (list_all is_short items) h in
@@ -50,7 +50,7 @@ unfolding script_meaning ops_of
 empty_false hash valid = refl
 
 -- so a witness on which a script is true has an item
-open_filled : (hash : List ℕ → List ℕ) (valid : List ℕ → List ℕ → Bool) (script : List ℕ) (witness : List (List ℕ))
+pub open_filled : (hash : List ℕ → List ℕ) (valid : List ℕ → List ℕ → Bool) (script : List ℕ) (witness : List (List ℕ))
     → script_of witness ≡ script → script_meaning hash valid script (items_of witness) ≡ true → is_filled witness ≡ true
 open_filled hash valid script [] e h =
     let f = subst (λ (x : List ℕ). script_meaning hash valid x [] ≡ true) (sym e) h in
@@ -66,7 +66,7 @@ AllShort (witness ∷ others) = (list_all is_short (items_of witness) ≡ true) 
 -- ---- inputs
 
 -- without witnesses inputs stay as they are
-as_they_are : (is : List TxIn) → witnessed is [] ≡ is
+pub as_they_are : (is : List TxIn) → witnessed is [] ≡ is
 as_they_are [] = refl
 as_they_are (i ∷ is) = refl
 
@@ -173,18 +173,18 @@ same_place place [] ws = refl
 same_place place (i ∷ is) [] = refl
 same_place place (i ∷ is) (w ∷ ws) = ap (λ (b : Bool). same_outpoint i.prev place.prev || b) (same_place place is ws)
 
-same_repeat : (is : List TxIn) (ws : List (List (List ℕ))) → has_repeat (witnessed is ws) ≡ has_repeat is
+pub same_repeat : (is : List TxIn) (ws : List (List (List ℕ))) → has_repeat (witnessed is ws) ≡ has_repeat is
 same_repeat [] ws = refl
 same_repeat (i ∷ is) [] = refl
 same_repeat (i ∷ is) (w ∷ ws) = λ j. same_place i is ws j || same_repeat is ws j
 
 -- a lock binds the inputs of a plan, where there is one
-heeds : (xs : List Spent) (ws : List (List (List ℕ))) → 0 < length xs → heeds_lock (witnessed (map input_of xs) ws) ≡ true
+pub heeds : (xs : List Spent) (ws : List (List (List ℕ))) → 0 < length xs → heeds_lock (witnessed (map input_of xs) ws) ≡ true
 heeds [] ws h = absurd (omega (arith, h))
 heeds (x ∷ xs) [] h = refl
 heeds (x ∷ xs) (w ∷ ws) h = refl
 
-many : (xs : List Spent) (ws : List (List (List ℕ))) → length (witnessed (map input_of xs) ws) ≡ length xs
+pub many : (xs : List Spent) (ws : List (List (List ℕ))) → length (witnessed (map input_of xs) ws) ≡ length xs
 many xs ws = as_many (map input_of xs) ws ∙ all xs
   where
     all : (ys : List Spent) → length (map input_of ys) ≡ length ys
@@ -206,13 +206,13 @@ pub record IsWhole (d : Unsigned) : Type 0 where
   pub funded : IsFunded d
   pub apart : has_repeat (map input_of d.spends) ≡ false
 
-not_less : (m n : ℕ) → n ≤ m → nat_lt m n ≡ false
+pub not_less : (m n : ℕ) → n ≤ m → nat_lt m n ≡ false
 not_less m n h = grind (arith, nat_tests, h)
 
-is_less : (m n : ℕ) → m < n → nat_lt m n ≡ true
+pub is_less : (m n : ℕ) → m < n → nat_lt m n ≡ true
 is_less m n h = grind (arith, nat_tests, h)
 
-by_tests : (a b c d : Bool) → c ≡ false → d ≡ false → (a && (b && (c || d))) ≡ false
+pub by_tests : (a b c d : Bool) → c ≡ false → d ≡ false → (a && (b && (c || d))) ≡ false
 by_tests a b c d p q = grind (arith, p, q)
 
 module _ (hash : List ℕ → List ℕ) (oracle : Oracle) (chain : Chain) (d : Unsigned) (ws : List (List (List ℕ))) (w : IsWhole d)

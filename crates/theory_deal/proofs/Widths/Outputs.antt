@@ -111,7 +111,7 @@ module _ (hash : List ℕ → List ℕ) (bytes : HashesBytes hash) where
     many_parts path k no_part = refl
     many_parts path k (part v c ps) = ap suc (many_parts path (k + 1) ps)
 
-    core_few : (path : List PathStep) (v : ℕ) (c : term.Guarded) → is_readable_branch c ≡ true → length (core_outputs hash keys s path v c) ≤ 64
+    pub core_few : (path : List PathStep) (v : ℕ) (c : term.Guarded) → is_readable_branch c ≡ true → length (core_outputs hash keys s path v c) ≤ 64
     core_few path v (put_reveal puts reveals test next) r = omega arith
     core_few path v (withdraw party) r = omega arith
     core_few path v (split ps) r =

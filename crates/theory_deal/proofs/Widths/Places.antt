@@ -3,7 +3,7 @@ use Rattle.std.proofs.Common.{◌≡◌, ℕ, ◌<◌, ◌^◌, List, [], ◌∷
 use Rattle.std.proofs.Common.{inl, inr}
 use Rattle.std.specs.Prelude.{nat_le, slice_get, length}
 use Rattle.std.specs.List.{list_all, AllByRecursion}
-use Rattle.std.specs.Option.{option_map, option_and_then}
+use Rattle.std.specs.Option.{option_map, option_map_or, option_and_then}
 use Rattle.std.proofs.lemmas.Bool.{and_parts}
 use Rattle.std.proofs.lemmas.Bool.Decides.{nat_tests}
 use Rattle.spec_data.specs.Hashes.{HashesBytes}
@@ -17,12 +17,13 @@ use Rattle.spec_terms.specs.declared.path.PathStep.{PathStep}
 use Rattle.spec_terms.specs.declared.path.PathStep.TheVariants.{Branch as To, Part as Into}
 use Rattle.spec_bitcoin.specs.declared.tx.OutPoint.{OutPoint}
 use Rattle.spec_bitcoin.specs.Spelling.{IsPlace, IsString, stripped}
-use Rattle.spec_compiler.specs.Keyed.Keys.{Keys}
+use Rattle.spec_compiler.specs.Keyed.OwnScripts.{code_of}
+use Rattle.spec_compiler.specs.Keyed.Keys.{Keys, own_script}
 use Rattle.spec_compiler.specs.Keyed.Instance.{Instance, branch_path}
-use Rattle.spec_compiler.specs.Keyed.Statements.{AreKeys, AreKeyDeposits, IsCompiled}
+use Rattle.spec_compiler.specs.Keyed.Statements.{AreKeys, IsCompiled}
 use Rattle.spec_compiler.specs.declared.unsigned.Spent.{Spent}
 use Rattle.spec_compiler.specs.declared.unsigned.Unsigned.{Unsigned}
-use Rattle.spec_compiler.specs.Keyed.Transactions.{Standing, tx_of, output_outpoint, deposit, outpoint_or_none, put_deposits, branch_unsigned}
+use Rattle.spec_compiler.specs.Keyed.Transactions.{Standing, party_script, tx_of, output_outpoint, deposit, outpoint_or_none, put_deposits, branch_unsigned}
 use Rattle.spec_compiler.specs.Keyed.Transactions.{part_standing, root_standing, initial_unsigned}
 use Rattle.spec_compiler.specs.Keyed.ByPath.{PathEnd, at_position, at_branch, branch_end, continued_end, part_end, next_end, end_at, as_unsigned}
 use Rattle.spec_tool.specs.declared.which.Which.{Which}
@@ -38,8 +39,7 @@ use Rattle.theory_psbt_listed.proofs.Digests.{BytesIn}
 use Rattle.theory_deal.specs.Finished.{IsApplied}
 use Rattle.theory_deal.proofs.Branches.{along, branch_found}
 use Rattle.theory_deal.proofs.ReadBranches.{branch_reads, puts_needed}
-use Rattle.theory_deal.proofs.OfKeys.{deposit_of_key}
-use Rattle.theory_deal.proofs.Widths.ScriptBytes.{KeysOfBytes, position_string, party_string}
+use Rattle.theory_deal.proofs.Widths.ScriptBytes.{KeysOfBytes, AreBrought, code_string, position_string, party_string}
 
 -- what is spent lies at a place, and its script can stand in a witness
 pub record IsSpendable (x : Spent) : Type 0 where
@@ -127,15 +127,16 @@ module _ (hash : List ℕ → List ℕ) (bytes : HashesBytes hash) (keys : Keys)
 
   -- ---- with scripts
 
-  module _ (are_keys : AreKeys hash keys) (of_keys : AreKeyDeposits keys) (key_bytes : KeysOfBytes hash keys) (hashes : BytesIn s.hashes) where
+  module _ (are_keys : AreKeys hash keys) (brought : AreBrought keys) (key_bytes : KeysOfBytes hash keys) (hashes : BytesIn s.hashes) where
     abbrev pub AreSpendable : List Spent → Type 0
     AreSpendable xs = AllByRecursion IsSpendable xs
 
     one_deposit : (n : List ℕ) (h : Holding) → is_among n (needed_deposits s.advert) ≡ true → IsSpendable (deposit hash keys s n h)
-    one_deposit n h k = record {
-      place = named_place n k;
-      script = subst IsString (sym (deposit_of_key hash keys s n h of_keys)) (party_string hash keys are_keys key_bytes h.owner);
-    }
+    one_deposit n h k = record { place = named_place n k; script = by_script (own_script keys n) refl }
+      where
+        by_script : (o : Option (List ℕ)) → own_script keys n ≡ o → IsString (option_map_or code_of o (party_script hash keys h.owner))
+        by_script None e = party_string hash keys are_keys key_bytes h.owner
+        by_script (Some own) e = code_string own (brought n own e)
 
     persistent_spendable : (ds : List (List ℕ × Holding)) → ((d : List ℕ × Holding) → Is_in d ds → Is_in d (deposits s.advert.pre))
         → AreSpendable (map (λ d. deposit hash keys s d.0 d.1) ds)

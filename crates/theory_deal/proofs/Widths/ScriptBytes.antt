@@ -1,5 +1,5 @@
 -- The scripts of positions and deposits are of bytes, where the keys and the committed digests are.
-use Rattle.std.proofs.Common.{◌≡◌, ℕ, zero, suc, ◌+◌, ◌/◌, ◌%◌, ◌<◌, ◌≤◌, List, [], ◌∷◌, ◌++◌, length, map, Bool, true, false, refl, arith, lit<}
+use Rattle.std.proofs.Common.{◌≡◌, ℕ, zero, suc, ◌+◌, ◌/◌, ◌%◌, ◌<◌, ◌≤◌, List, [], ◌∷◌, ◌++◌, length, map, Bool, true, false, Some, refl, arith, lit<}
 use Rattle.std.proofs.Common.{length-append}
 use Rattle.std.specs.Prelude.{pos, replicate, nat_le, nat_lt, ◌==◌, if◌then◌else◌}
 use Rattle.std.specs.List.{list_all, AllByRecursion}
@@ -22,10 +22,12 @@ use Rattle.spec_bitcoin.specs.Numbers.{signed_bytes, item_of_number}
 use Rattle.spec_bitcoin.specs.Scripts.{encode_op, encode, push_number}
 use Rattle.spec_bitcoin.specs.Opcodes.{op_drop, op_fromaltstack}
 use Rattle.spec_bitcoin.specs.Spelling.{IsString}
-use Rattle.spec_compiler.specs.Keyed.Keys.{Keys, key_in}
+use Rattle.spec_bitcoin.specs.Verdict.{program_of}
+use Rattle.spec_compiler.specs.Keyed.OwnScripts.{pays_to_key_hash, key_hash_code, code_of}
+use Rattle.spec_compiler.specs.Keyed.Keys.{Keys, key_in, own_script}
 use Rattle.spec_compiler.specs.Keyed.Instance.{Instance, people, branch_path, branch_label, branch_keys, deposit_key, position_demands}
 use Rattle.spec_compiler.specs.Keyed.Instance.{position_script}
-use Rattle.spec_compiler.specs.Keyed.Statements.{AreKeys, IsCompiled}
+use Rattle.spec_compiler.specs.Keyed.Statements.{AreKeys, IsPayable, IsCompiled}
 use Rattle.spec_compiler.specs.Keyed.Transactions.{party_script}
 use Rattle.spec_compiler.specs.Scripts.{formula_ops, test_ops, reveal_ops, reveals_ops, secrets_ops, signed_ops}
 use Rattle.spec_compiler.specs.Scripts.{Demands, branch_ops, digest_of, output_ops, demands_from}
@@ -230,3 +232,40 @@ module _ (hash : List ℕ → List ℕ) (keys : Keys) (are_keys : AreKeys hash k
             (IsBytes-append key (checksig_byte ∷ []) (bytes (labels.Deposit a)) (bytes_cons checksig_byte [] (lit< tt) bytes_none));
         size = omega (arith, n, l);
       }
+
+-- ---- scripts of wallets
+
+-- each deposit with a script of its own has a short one, of bytes
+abbrev pub AreBrought : Keys → Type 0
+AreBrought keys = (name own : List ℕ) → own_script keys name ≡ Some own → IsPayable own
+
+-- what its signature is made with can stand in a witness
+pub code_string : (own : List ℕ) → IsPayable own → IsString (code_of own)
+code_string own h = by_test (pays_to_key_hash own)
+  where
+    bytes_behind : (bytes : List ℕ) → IsBytes bytes → IsBytes (program_of bytes)
+    bytes_behind [] k = bytes_none
+    bytes_behind (a ∷ []) k = bytes_none
+    bytes_behind (a ∷ (b ∷ rest)) k = λ i. k (suc (suc i))
+
+    few_behind : (bytes : List ℕ) → length bytes ≤ 34 → length (program_of bytes) ≤ 34
+    few_behind [] k = k
+    few_behind (a ∷ []) k = omega arith
+    few_behind (a ∷ (b ∷ rest)) k = omega (arith, k)
+
+    tail : IsBytes (136 ∷ 172 ∷ [])
+    tail = bytes_cons 136 (172 ∷ []) (lit< tt) (bytes_cons 172 [] (lit< tt) bytes_none)
+
+    by_test : (b : Bool) → IsString (if b then key_hash_code (program_of own) else [])
+    by_test true =
+        let n = length-append (program_of own) (136 ∷ 172 ∷ []) in
+        let l = few_behind own h.few in
+        record {
+          bytes =
+              bytes_cons 118 (169 ∷ 20 ∷ (program_of own ++ 136 ∷ 172 ∷ [])) (lit< tt)
+              (bytes_cons 169 (20 ∷ (program_of own ++ 136 ∷ 172 ∷ [])) (lit< tt)
+              (bytes_cons 20 (program_of own ++ 136 ∷ 172 ∷ []) (lit< tt)
+              (IsBytes-append (program_of own) (136 ∷ 172 ∷ []) (bytes_behind own h.bytes) tail)));
+          size = omega (arith, n, l);
+        }
+    by_test false = record { bytes = bytes_none; size = lit< tt }

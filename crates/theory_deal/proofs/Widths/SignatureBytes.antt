@@ -1,5 +1,5 @@
 -- The signatures of a file that is taken are of bytes.
-use Rattle.std.proofs.Common.{◌≡◌, ℕ, ◌+◌, List, [], ◌∷◌, ◌++◌, length, Bool, true, false, not, Option, Some, None, refl, sym, subst, cond, inl, inr}
+use Rattle.std.proofs.Common.{◌≡◌, ℕ, ◌+◌, List, [], ◌∷◌, ◌++◌, length, Bool, true, false, not, Option, Some, None, refl, sym, subst, cond, lit<, inl, inr}
 use Rattle.std.specs.Prelude.{◌⊎◌, Result, Ok, Err, IfSome, nat_lt}
 use Rattle.std.specs.List.{find, AllByRecursion}
 use Rattle.std.specs.Str.{bytes_eq}
@@ -17,13 +17,18 @@ use Rattle.spec_deal.specs.declared.fault.SignatureReason.TheVariants as reasons
 use Rattle.spec_deal.specs.declared.signed.Signed.{Signed}
 use Rattle.spec_deal.specs.declared.transaction.Input.{Input}
 use Rattle.spec_deal.specs.declared.transaction.Transaction.{Transaction}
+use Rattle.spec_deal.specs.declared.transaction.Wallet.{Wallet}
+use Rattle.spec_deal.specs.Setting.{no_key}
 use Rattle.spec_deal.specs.Shape.{is_strict}
-use Rattle.spec_deal.specs.SignatureFile.{Taken, same_place, is_required, is_verified, refused_second, taken_once, take_signature}
-use Rattle.spec_deal.specs.SignatureFile.{take_signatures, spent_fits, script_fits, witness_fits, final_signature, take_input, take_inputs}
+use Rattle.spec_deal.specs.SignatureFile.{Taken, same_place, is_required, is_verified, taken_first, refused_second, taken_once}
+use Rattle.spec_deal.specs.SignatureFile.{take_signature, take_signatures, spent_fits, script_fits, witness_fits, final_signature}
+use Rattle.spec_deal.specs.SignatureFile.{has_witness_form, has_strict_signature, verifies_beside, same_items, witness_taken_once}
+use Rattle.spec_deal.specs.SignatureFile.{take_witness, take_final, take_key_input, take_wallet_input, take_input, take_inputs}
 use Rattle.spec_deal.specs.SignatureFile.{has_bytes, take_transaction, take_psbt, take_bytes, take_words, take_lines, read_signatures}
 use Rattle.spec_deal.specs.Sizes.{most_signature_bytes}
 use Rattle.spec_deal.specs.Transactions.{Required, all_required, transactions}
 use Rattle.spec_deal.specs.Verifier.{Verifier}
+use Rattle.theory_bitcoin.proofs.Exact.{bytes_none}
 use Rattle.theory_calculus.specs.Members.{Is_in}
 use Rattle.theory_calculus.proofs.Members.{in_append}
 use Rattle.theory_psbt_listed.proofs.Digests.{all_joined}
@@ -31,9 +36,13 @@ use Rattle.theory_psbt.specs.Fitting.{IsSignature, IsStack, IsKnown}
 use Rattle.theory_psbt.proofs.Base64OnlyWritten.{bytes_only}
 use Rattle.theory_psbt.proofs.ReadFits.{read_fits}
 
--- each signature is of bytes
+-- each signature is of bytes, and each witness can stand in a transaction
+pub record IsOfBytes (g : Signed) : Type 0 where
+  pub signature : IsBytes g.signature
+  pub witness : IsStack g.witness
+
 abbrev pub SignedBytes : List Signed → Type 0
-SignedBytes given = (g : Signed) → Is_in g given → IsBytes g.signature
+SignedBytes given = (g : Signed) → Is_in g given → IsOfBytes g
 
 abbrev IfBytes : {E : Type 0} → Result (List Signed) E → Type 0
 IfBytes (Ok given) = SignedBytes given
@@ -42,12 +51,12 @@ IfBytes (Err reason) = Unit {0}
 abbrev PairBytes : Pairing → Type 0
 PairBytes p = IsBytes (p.1)
 
-one_more : (given : List Signed) (g : Signed) → SignedBytes given → IsBytes g.signature → SignedBytes (given ++ g ∷ [])
+one_more : (given : List Signed) (g : Signed) → SignedBytes given → IsOfBytes g → SignedBytes (given ++ g ∷ [])
 one_more given g h k x i = by_place (in_append x given (g ∷ []) i)
   where
-    by_place : Is_in x given ⊎ Is_in x (g ∷ []) → IsBytes x.signature
+    by_place : Is_in x given ⊎ Is_in x (g ∷ []) → IsOfBytes x
     by_place (inl a) = h x a
-    by_place (inr (inl same)) = subst (λ (y : Signed). IsBytes y.signature) (sym same) k
+    by_place (inr (inl same)) = subst IsOfBytes (sym same) k
     by_place (inr (inr a)) = absurd a
 
 -- ---- an input that was read
@@ -62,18 +71,27 @@ final_bytes script (Some []) h = tt
 final_bytes script (Some (signature ∷ items)) h = (h.each.0.bytes, tt)
 
 module _ (v : Verifier) where
-  once : (given : List Signed) (g : Signed) (o : Option Signed) (verified : Bool) → SignedBytes given → IsBytes g.signature
-      → IfBytes (taken_once verified given g o)
-  once given g None true h k = one_more given g h k
-  once given g None false h k = tt
-  once given g (Some earlier) verified h k = by_test (bytes_eq earlier.signature g.signature) verified
-    where
-      by_test : (b c : Bool) → IfBytes {E = SignatureReason} (cond b (Ok given) (refused_second c g))
-      by_test true c = h
-      by_test false true = tt
-      by_test false false = tt
+  second : (given : List Signed) (g : Signed) (same verified : Bool) → SignedBytes given
+      → IfBytes {E = SignatureReason} (cond same (Ok given) (refused_second verified g))
+  second given g true verified h = h
+  second given g false true h = tt
+  second given g false false h = tt
 
-  one : (required : List Required) (given : List Signed) (g : Signed) → SignedBytes given → IsBytes g.signature
+  first : (given : List Signed) (g : Signed) (verified : Bool) → SignedBytes given → IsOfBytes g → IfBytes (taken_first verified given g)
+  first given g true h k = one_more given g h k
+  first given g false h k = tt
+
+  once : (given : List Signed) (g : Signed) (o : Option Signed) (verified : Bool) → SignedBytes given → IsOfBytes g
+      → IfBytes (taken_once verified given g o)
+  once given g None verified h k = first given g verified h k
+  once given g (Some earlier) verified h k = second given g (bytes_eq earlier.signature g.signature) verified h
+
+  witness_once : (given : List Signed) (g : Signed) (o : Option Signed) (verified : Bool) → SignedBytes given → IsOfBytes g
+      → IfBytes (witness_taken_once verified given g o)
+  witness_once given g None verified h k = first given g verified h k
+  witness_once given g (Some earlier) verified h k = second given g (same_items earlier.witness g.witness) verified h
+
+  one : (required : List Required) (given : List Signed) (g : Signed) → SignedBytes given → IsOfBytes g
       → IfBytes (take_signature v required given g)
   one required given g h k = by_test (is_required required g) (is_strict g.signature)
     where
@@ -88,17 +106,19 @@ module _ (v : Verifier) where
       → AllByRecursion PairBytes ps → IfBytes (take_signatures v required tx k given ps)
   several required tx k given [] h all = h
   several required tx k given (p ∷ ps) h all =
-      by_taken (take_signature v required given (record { tx = tx; input = k; key = p.0; signature = p.1 }))
-      (one required given (record { tx = tx; input = k; key = p.0; signature = p.1 }) h all.0) (λ more m. several required tx k more ps m all.1)
+      by_taken (take_signature v required given (record { tx = tx; input = k; key = p.0; signature = p.1; witness = [] }))
+      (one required given (record { tx = tx; input = k; key = p.0; signature = p.1; witness = [] }) h
+      (record { signature = all.0; witness = record { few = lit< tt; each = tt } }))
+      (λ more m. several required tx k more ps m all.1)
     where
       by_taken : (r : Taken) → IfBytes r → ((more : List Signed) → SignedBytes more → IfBytes (take_signatures v required tx k more ps))
           → IfBytes {E = SignatureReason} (elim r [ Ok more ↦ take_signatures v required tx k more ps | Err reason ↦ Err reason ])
       by_taken (Ok more) m go = go more m
       by_taken (Err reason) m go = tt
 
-  one_input : (required : List Required) (tx : List ℕ) (k : ℕ) (given : List Signed) (i : Input) (input : PsbtInput) → SignedBytes given
-      → IsKnown input → IfBytes (take_input v required tx k given i input)
-  one_input required tx k given i input h known =
+  key_input : (required : List Required) (tx : List ℕ) (k : ℕ) (given : List Signed) (i : Input) (input : PsbtInput) → SignedBytes given
+      → IsKnown input → IfBytes (take_key_input v required tx k given i input)
+  key_input required tx k given i input h known =
       by_test (spent_fits i.output input.spent) (script_fits i.spent.script input.script)
       (witness_fits i.spent.script input.witness)
     where
@@ -112,6 +132,42 @@ module _ (v : Verifier) where
           several required tx k given (input.partial ++ final_signature i.spent.script input.witness) h
           (all_joined PairBytes input.partial (final_signature i.spent.script input.witness) (partial_bytes input.partial known.partial)
           (final_bytes i.spent.script input.witness known.witness))
+
+  one_witness : (digest script : List ℕ) (given : List Signed) (g : Signed) → SignedBytes given → IsOfBytes g
+      → IfBytes (take_witness v digest script given g)
+  one_witness digest script given g h k = by_test (has_witness_form v script g.witness) (has_strict_signature script g.witness)
+    where
+      by_test : (a b : Bool)
+          → IfBytes (cond (not a) (Err (reasons.Witness g.input)) (cond (not b) (Err (reasons.Signature g.input))
+          (witness_taken_once (verifies_beside v digest script g.witness) given g (find (λ earlier. same_place earlier g) given))))
+      by_test false b = tt
+      by_test true false = tt
+      by_test true true =
+          witness_once given g (find (λ earlier. same_place earlier g) given) (verifies_beside v digest script g.witness) h k
+
+  wallet_input : (tx : List ℕ) (k : ℕ) (given : List Signed) (i : Input) (w : Wallet) (input : PsbtInput) → SignedBytes given
+      → IsKnown input → IfBytes (take_wallet_input v tx k given i w input)
+  wallet_input tx k given i w input h known = by_test (spent_fits i.output input.spent) input.witness known.witness
+    where
+      by_test : (a : Bool) (o : Option (List (List ℕ))) → IfSome o IsStack
+          → IfBytes (cond (not a) (Err (reasons.Spent k)) (take_final v tx k given i w o))
+      by_test false o f = tt
+      by_test true None f = h
+      by_test true (Some items) f =
+          one_witness i.digest w.script given (record { tx = tx; input = k; key = no_key; signature = []; witness = items }) h
+          (record { signature = bytes_none; witness = f })
+
+  one_input : (required : List Required) (tx : List ℕ) (k : ℕ) (given : List Signed) (i : Input) (input : PsbtInput) → SignedBytes given
+      → IsKnown input → IfBytes (take_input v required tx k given i input)
+  one_input required tx k given i input h known = by_wallet i.wallet
+    where
+      by_wallet : (o : Option Wallet)
+          → IfBytes {E = SignatureReason} (elim o [
+            | None ↦ take_key_input v required tx k given i input
+            | Some w ↦ take_wallet_input v tx k given i w input
+          ])
+      by_wallet None = key_input required tx k given i input h known
+      by_wallet (Some w) = wallet_input tx k given i w input h known
 
   inputs : (required : List Required) (tx : List ℕ) (k : ℕ) (given : List Signed) (is : List Input) (ins : List PsbtInput) → SignedBytes given
       → AllByRecursion IsKnown ins → IfBytes (take_inputs v required tx k given is ins)

@@ -1,6 +1,6 @@
 -- The witnesses of a finished transaction can be spelled: few items, each of bytes.
 use Rattle.std.proofs.Common.{◌≡◌, ℕ, zero, suc, ◌+◌, ◌<◌, ◌≤◌, ◌^◌, List, [], ◌∷◌, ◌++◌, length, map, Bool, true, false, Option, Some, None}
-use Rattle.std.proofs.Common.{refl, sym, ap, ◌∙◌, subst, arith, lit<, length-append}
+use Rattle.std.proofs.Common.{refl, sym, ap, ◌∙◌, subst, arith, lit<, length-append, append-nil}
 use Rattle.std.specs.Prelude.{nat_le, nat_lt, reverse, replicate, if◌then◌else◌}
 use Rattle.std.specs.List.{find, AllByRecursion}
 use Rattle.std.specs.Option.{option_map, option_map_or, option_and_then}
@@ -19,6 +19,7 @@ use Rattle.spec_terms.specs.Readable.{is_readable_count, are_readable, is_some_l
 use Rattle.spec_terms.specs.declared.path.PathStep.{PathStep}
 use Rattle.spec_terms.specs.declared.place.Place.TheVariants as places
 use Rattle.spec_bitcoin.specs.declared.label.Label.{Label}
+use Rattle.spec_bitcoin.specs.declared.label.Label.TheVariants as variants
 use Rattle.spec_bitcoin.specs.Spelling.{IsString}
 use Rattle.spec_compiler.specs.Keyed.Keys.{Keys}
 use Rattle.spec_compiler.specs.Keyed.Instance.{Instance, branch_label}
@@ -33,11 +34,14 @@ use Rattle.spec_tool.specs.declared.which.Which.TheVariants as names
 use Rattle.spec_tool.specs.Keyed.Listed.{Listed, deposit_signer, branch_signers, path_listed, initial_listed, listed_at}
 use Rattle.spec_deal.specs.declared.entry.Shown.{Shown}
 use Rattle.spec_deal.specs.declared.signed.Signed.{Signed}
-use Rattle.spec_deal.specs.Finished.{bytes_or_none, input_signatures, deposit_witnesses, choices_at, strings_of, branch_witness}
+use Rattle.spec_deal.specs.Finished.{bytes_or_none, items_or_none, input_signatures, deposit_witness, deposit_witnesses, choices_at}
+use Rattle.spec_deal.specs.Finished.{strings_of, branch_witness}
 use Rattle.spec_deal.specs.Finished.{path_witnesses, witnesses}
-use Rattle.spec_deal.specs.Given.{is_for, signature_for}
+use Rattle.spec_deal.specs.declared.transaction.Wallet.{Wallet}
+use Rattle.spec_deal.specs.Given.{is_for, signature_for, witness_for}
+use Rattle.spec_deal.specs.Wallets.{input_wallet}
 use Rattle.spec_deal.specs.SecretFile.{string_for}
-use Rattle.spec_deal.specs.Slots.{Slot}
+use Rattle.spec_deal.specs.Slots.{Slot, input_slot}
 use Rattle.theory_bitcoin.proofs.Exact.{bytes_none, bytes_cons}
 use Rattle.theory_calculus.proofs.Faultless.{no_limit}
 use Rattle.theory_calculus.proofs.Members.{get_below, all_in, found}
@@ -48,7 +52,6 @@ use Rattle.theory_psbt.specs.Fitting.{IsStack}
 use Rattle.theory_script.proofs.Keyed.Stands.{some_same}
 use Rattle.theory_deal.specs.Finished.{are_short, do_fit}
 use Rattle.theory_deal.proofs.Branches.{branch_found}
-use Rattle.theory_deal.proofs.FinishedOpens.{slot_of}
 use Rattle.theory_deal.proofs.ReadBranches.{choice_reads, reveals_different}
 use Rattle.theory_deal.proofs.Ledger.ShortItems.{string_short}
 use Rattle.theory_deal.proofs.Widths.Outputs.{are_few}
@@ -83,7 +86,7 @@ selector_strings i n = by_last (nat_lt (i + 1) n)
     by_last true = all_joined IsString (replicate i []) ((1 ∷ []) ∷ []) (empty_strings i) (one, tt)
     by_last false = empty_strings i
 
-few_selectors : (i n : ℕ) → length (selectors i n) ≤ i + 1
+pub few_selectors : (i n : ℕ) → length (selectors i n) ≤ i + 1
 few_selectors i n = by_last (nat_lt (i + 1) n)
   where
     by_last : (b : Bool) → length (if b then replicate i [] ++ (1 ∷ []) ∷ [] else replicate {A = List ℕ} i []) ≤ i + 1
@@ -108,13 +111,13 @@ module _ (hash : List ℕ → List ℕ) (keys : Keys) (s : Instance) (given : Li
       by_found None e = no_bytes
       by_found (Some g) e =
           let there = (found (is_for hash keys slot) given g e).0 in
-          record { bytes = signed g there; size = small g.signature (all_in (λ (x : Signed). is_short x.signature) given g short there) }
+          record { bytes = (signed g there).signature; size = small g.signature (all_in (λ (x : Signed). is_short x.signature) given g short there) }
 
   input_strings : (l : Listed) (k : ℕ) (spent : Spent) (labels : List Label) → Strings (input_signatures hash keys s given l k spent labels)
   input_strings l k spent [] = tt
-  input_strings l k spent (label ∷ labels) = (signature_string (slot_of s.advert l k spent label), input_strings l k spent labels)
+  input_strings l k spent (label ∷ labels) = (signature_string (input_slot keys s.advert l k spent label), input_strings l k spent labels)
 
-  as_many : (l : Listed) (k : ℕ) (spent : Spent) (labels : List Label)
+  pub as_many : (l : Listed) (k : ℕ) (spent : Spent) (labels : List Label)
       → length (input_signatures hash keys s given l k spent labels) ≡ length labels
   as_many l k spent [] = refl
   as_many l k spent (label ∷ labels) = ap suc (as_many l k spent labels)
@@ -133,31 +136,54 @@ module _ (hash : List ℕ → List ℕ) (keys : Keys) (s : Instance) (given : Li
   secret_strings [] = tt
   secret_strings (name ∷ required) = (secret_string name, secret_strings required)
 
-  as_many_secrets : (required : List (List ℕ)) → length (strings_of strings required) ≡ length required
+  pub as_many_secrets : (required : List (List ℕ)) → length (strings_of strings required) ≡ length required
   as_many_secrets [] = refl
   as_many_secrets (name ∷ required) = ap suc (as_many_secrets required)
 
   -- ---- witnesses
 
-  -- few sign each input
-  abbrev Few : List (List Label) → Type 0
-  Few signers = AllByRecursion (λ (labels : List Label). length labels ≤ 16) signers
+  -- one signs each input that spends a deposit
+  abbrev Alone : List (List Label) → Type 0
+  Alone signers = AllByRecursion (λ (labels : List Label). (party : List ℕ) × (labels ≡ deposit_signer party)) signers
 
-  deposit_stacks : (l : Listed) (k : ℕ) (spends : List Spent) (signers : List (List Label)) → AllByRecursion IsSpendable spends
-      → Few signers → AllByRecursion IsStack (deposit_witnesses hash keys s given l k spends signers)
-  deposit_stacks l k [] signers h f = tt
-  deposit_stacks l k (spent ∷ spends) [] h f = tt
-  deposit_stacks l k (spent ∷ spends) (labels ∷ signers) h f =
+  -- what a wallet handed in
+  handed_stack : (slot : Slot) → IsStack (items_or_none (witness_for hash keys given slot))
+  handed_stack slot = by_found (find (is_for hash keys slot) given) refl
+    where
+      by_found : (o : Option Signed) → find (is_for hash keys slot) given ≡ o
+          → IsStack (items_or_none (option_map (λ (g : Signed). g.witness) o))
+      by_found None e = record { few = lit< tt; each = tt }
+      by_found (Some g) e = (signed g (found (is_for hash keys slot) given g e).0).witness
+
+  wallet_stack : (l : Listed) (k : ℕ) (spent : Spent) (labels : List Label) (w : Wallet) → (party : List ℕ) × (labels ≡ deposit_signer party)
+      → IsStack (deposit_witness hash keys s given l k spent labels (Some w))
+  wallet_stack l k spent labels w (party, e) =
+      subst (λ (x : List Label). IsStack (deposit_witness hash keys s given l k spent x (Some w))) (sym e)
+      (subst IsStack (sym (append-nil (items_or_none (witness_for hash keys given (input_slot keys s.advert l k spent (variants.Deposit party))))))
+      (handed_stack (input_slot keys s.advert l k spent (variants.Deposit party))))
+
+  key_stack : (l : Listed) (k : ℕ) (spent : Spent) (labels : List Label) → IsSpendable spent → length labels ≤ 16
+      → IsStack (input_signatures hash keys s given l k spent labels ++ spent.script ∷ [])
+  key_stack l k spent labels h few =
       let signatures = input_signatures hash keys s given l k spent labels in
       let many = length-append signatures (spent.script ∷ []) in
       let each = as_many l k spent labels in
-      let few = f.0 in (
-        record {
-          few = omega (arith, many, each, few);
-          each = all_joined IsString signatures (spent.script ∷ []) (input_strings l k spent labels) (h.0.script, tt);
-        },
-        deposit_stacks l (k + 1) spends signers h.1 f.1,
-      )
+      record {
+        few = omega (arith, many, each, few);
+        each = all_joined IsString signatures (spent.script ∷ []) (input_strings l k spent labels) (h.script, tt);
+      }
+
+  deposit_stacks : (l : Listed) (k : ℕ) (spends : List Spent) (signers : List (List Label)) → AllByRecursion IsSpendable spends
+      → Alone signers → AllByRecursion IsStack (deposit_witnesses hash keys s given l k spends signers)
+  deposit_stacks l k [] signers h f = tt
+  deposit_stacks l k (spent ∷ spends) [] h f = tt
+  deposit_stacks l k (spent ∷ spends) (labels ∷ signers) h f =
+      (by_wallet (input_wallet keys s.advert l.which k), deposit_stacks l (k + 1) spends signers h.1 f.1)
+    where
+      by_wallet : (o : Option Wallet) → IsStack (deposit_witness hash keys s given l k spent labels o)
+      by_wallet None =
+          key_stack l k spent labels h.0 (subst (λ (x : List Label). length x ≤ 16) (sym f.0.1) (omega arith))
+      by_wallet (Some w) = wallet_stack l k spent labels w f.0
 
   -- how many a branch can have
   pub record IsFewBranch (i : ℕ) (b : term.Guarded) : Type 0 where
@@ -200,7 +226,7 @@ module _ (hash : List ℕ → List ℕ) (keys : Keys) (s : Instance) (given : Li
   -- ---- of a well-formed contract
 
   module _ (well : IsWellFormed s.advert) where
-    few_people : length (participants s.advert) ≤ 16
+    pub few_people : length (participants s.advert) ≤ 16
     few_people = by_test (nat_le (length (participants s.advert)) most_participants) refl (no_limit s.advert well).0
       where
         by_test : (t : Bool) → nat_le (length (participants s.advert)) most_participants ≡ t
@@ -209,7 +235,7 @@ module _ (hash : List ℕ → List ℕ) (keys : Keys) (s : Instance) (given : Li
         by_test true e k = grind (arith, nat_tests, e)
         by_test false e k = cc
 
-    few_branch : (path : List PathStep) (here : Standing) (i : ℕ) (b : term.Guarded)
+    pub few_branch : (path : List PathStep) (here : Standing) (i : ℕ) (b : term.Guarded)
         → end_at hash keys s path ≡ Some (at_branch here i b) → IsFewBranch i b
     few_branch path here i b e =
         let place = branch_found hash keys s path here i b e in
@@ -226,23 +252,28 @@ module _ (hash : List ℕ → List ℕ) (keys : Keys) (s : Instance) (given : Li
     few_labels path [] = refl
     few_labels path (p ∷ ps) = ap suc (few_labels path ps)
 
-    owners_few : (f : List ℕ → List ℕ) (ns : List (List ℕ)) → Few (map (λ name. deposit_signer (f name)) ns)
-    owners_few f [] = tt
-    owners_few f (n ∷ ns) = (omega arith, owners_few f ns)
+    owners_alone : (f : List ℕ → List ℕ) (ns : List (List ℕ)) → Alone (map (λ name. deposit_signer (f name)) ns)
+    owners_alone f [] = tt
+    owners_alone f (n ∷ ns) = ((f n, refl), owners_alone f ns)
 
-    holders_few : (ds : List (List ℕ × Holding)) → Few (map (λ d. deposit_signer (d.1).owner) ds)
-    holders_few [] = tt
-    holders_few (d ∷ ds) = (omega arith, holders_few ds)
+    holders_alone : (ds : List (List ℕ × Holding)) → Alone (map (λ d. deposit_signer (d.1).owner) ds)
+    holders_alone [] = tt
+    holders_alone (d ∷ ds) = (((d.1).owner, refl), holders_alone ds)
 
-    path_few : (path : List PathStep) (o : Option term.Guarded) → Few (option_map_or (branch_signers s.contract s.advert path) o [])
+    -- the first input's signers are few, and one signs each other
+    abbrev FewAlone : List (List Label) → Type 0
+    FewAlone [] = Unit {0}
+    FewAlone (labels ∷ signers) = (length labels ≤ 16) × Alone signers
+
+    path_few : (path : List PathStep) (o : Option term.Guarded) → FewAlone (option_map_or (branch_signers s.contract s.advert path) o [])
     path_few path None = tt
     path_few path (Some b) =
         let many = few_labels path (participants s.advert) in
         let few = few_people in
-        (omega (arith, many, few), owners_few (put_owner s.advert) (puts_of (core b)))
+        (omega (arith, many, few), owners_alone (put_owner s.advert) (puts_of (core b)))
 
     path_stacks : (path : List PathStep) (l : Listed) (spends : List Spent) (signers : List (List Label)) → AllByRecursion IsSpendable spends
-        → Few signers
+        → FewAlone signers
         → ((here : Standing) (i : ℕ) (b : term.Guarded) → end_at hash keys s path ≡ Some (at_branch here i b) → IsString here.output.script)
         → AllByRecursion IsStack (path_witnesses hash keys s given strings path l spends signers)
     path_stacks path l [] signers h f g = tt
@@ -280,5 +311,5 @@ module _ (hash : List ℕ → List ℕ) (keys : Keys) (s : Instance) (given : Li
         let same : made ≡ l = some_same e in
         let spendable = subst (λ (x : Listed). AllByRecursion IsSpendable x.pending.spends) (sym same) h in
         subst (λ (x : Listed). AllByRecursion IsStack (witnesses hash keys s given strings x x.which)) same
-        (deposit_stacks made 0 made.pending.spends made.signers spendable (holders_few (persistent s.advert.pre)))
+        (deposit_stacks made 0 made.pending.spends made.signers spendable (holders_alone (persistent s.advert.pre)))
     stacks_at (names.At path) l e h = of_path path (end_at hash keys s path) refl l e h

@@ -7,6 +7,7 @@ returns c = proof.state_answers (record {
   fit = c.known_fit.ensures;
   can = c.can_exactly.ensures;
   exactly = c.requirements_exactly.ensures;
+  unverified = c.unverified_exactly.ensures;
   supplied = c.supplied_comes.ensures;
   opens = c.can_opens.ensures;
   accepted = c.can_is_accepted.ensures;

@@ -1,0 +1,6 @@
+mod Ends
+mod Networks
+mod Outputs
+mod Poor
+mod Shown
+mod Unsigned

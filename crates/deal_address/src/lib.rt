@@ -1,5 +1,5 @@
 //! Bitcoin addresses (BIP 173, BIP 350): the address of a witness output's script, and the script that an address is
-//! of. No program calls it yet.
+//! of. Deal files are read by it, and texts of deals shown.
 #![tactic(auto)]
 
 mod checksum;

@@ -22,6 +22,22 @@ pub enum DealCommand<'a> {
     Finish(&'a str, &'a str, Which, &'a str),
     /// Prints one that may reveal secrets.
     FinishWith(&'a str, &'a str, Which, &'a str, &'a str),
+    /// Prints where deposits and payouts go, by a deal file that may lack lines.
+    Fund(&'a str, &'a str),
+    /// Prints what nodes wouldn't relay.
+    Warn(&'a str, &'a str),
+    /// Prints it, with the secrets that scripts will show.
+    WarnWith(&'a str, &'a str, &'a str),
+    /// Prints it, and whether the initial transaction may be signed.
+    Ready(&'a str, &'a str, &'a str),
+    /// Prints both, with the secrets that scripts will show.
+    ReadyWith(&'a str, &'a str, &'a str, &'a str),
+    /// Prints the transactions that a party endorses, for signers.
+    Endorse(&'a str, &'a str, &'a str),
+    /// Prints the hashes of secrets, as lines of a deal file.
+    Hashes(&'a str, &'a str),
+    /// Prints its plan for people and their wallets, as JSON.
+    Show(&'a str, &'a str),
     /// Prints where a deal stands.
     State(&'a str, &'a str, &'a str, &'a str),
     /// Prints it with secrets that the chain doesn't show.

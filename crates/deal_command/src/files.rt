@@ -42,15 +42,36 @@ pub fn files_of<'a>(
         DealCommand::Keys(contract) => list_of(alloc, &[(contract, MOST_TEXT_BYTES)]),
         DealCommand::Plan(contract, deal)
         | DealCommand::Psbts(contract, deal)
-        | DealCommand::Psbt(contract, deal, _) => {
+        | DealCommand::Psbt(contract, deal, _)
+        | DealCommand::Show(contract, deal)
+        | DealCommand::Fund(contract, deal)
+        | DealCommand::Warn(contract, deal)
+        | DealCommand::Endorse(contract, deal, _) => {
             list_of(
                 alloc,
                 &[(contract, MOST_TEXT_BYTES), (deal, MOST_DEAL_BYTES)],
             )
         }
+        DealCommand::Hashes(contract, secrets) => {
+            list_of(
+                alloc,
+                &[(contract, MOST_TEXT_BYTES), (secrets, MOST_SECRETS_BYTES)],
+            )
+        }
+        DealCommand::WarnWith(contract, deal, secrets) => {
+            list_of(
+                alloc,
+                &[
+                    (contract, MOST_TEXT_BYTES),
+                    (deal, MOST_DEAL_BYTES),
+                    (secrets, MOST_SECRETS_BYTES),
+                ],
+            )
+        }
         DealCommand::Missing(contract, deal, signatures)
         | DealCommand::Held(contract, deal, signatures)
-        | DealCommand::Finish(contract, deal, _, signatures) => {
+        | DealCommand::Finish(contract, deal, _, signatures)
+        | DealCommand::Ready(contract, deal, signatures) => {
             list_of(
                 alloc,
                 &[
@@ -60,7 +81,8 @@ pub fn files_of<'a>(
                 ],
             )
         }
-        DealCommand::FinishWith(contract, deal, _, signatures, secrets) => {
+        DealCommand::FinishWith(contract, deal, _, signatures, secrets)
+        | DealCommand::ReadyWith(contract, deal, signatures, secrets) => {
             list_of(
                 alloc,
                 &[

@@ -93,6 +93,73 @@ fn finish_words(alloc: Global, words: &[String]) -> Result<Option<DealCommand<'_
     }
 }
 
+fn fund_words(words: &[String]) -> Option<DealCommand<'_>>
+    ensures { option_map command result ≡ option_map on_deal (spec.fund_words (map string_bytes words.now)) }
+{
+    match words {
+        [contract, deal] => Some(DealCommand::Fund(contract.as_str(), deal.as_str())),
+        _ => None,
+    }
+}
+
+fn warn_words(words: &[String]) -> Option<DealCommand<'_>>
+    ensures { option_map command result ≡ option_map on_deal (spec.warn_words (map string_bytes words.now)) }
+{
+    match words {
+        [contract, deal] => Some(DealCommand::Warn(contract.as_str(), deal.as_str())),
+        [contract, deal, secrets] => {
+            Some(DealCommand::WarnWith(contract.as_str(), deal.as_str(), secrets.as_str()))
+        }
+        _ => None,
+    }
+}
+
+fn ready_words(words: &[String]) -> Option<DealCommand<'_>>
+    ensures { option_map command result ≡ option_map on_deal (spec.ready_words (map string_bytes words.now)) }
+{
+    match words {
+        [contract, deal, signatures] => {
+            Some(DealCommand::Ready(contract.as_str(), deal.as_str(), signatures.as_str()))
+        }
+        [contract, deal, signatures, secrets] => Some(DealCommand::ReadyWith(
+            contract.as_str(),
+            deal.as_str(),
+            signatures.as_str(),
+            secrets.as_str(),
+        )),
+        _ => None,
+    }
+}
+
+fn endorse_words(words: &[String]) -> Option<DealCommand<'_>>
+    ensures { option_map command result ≡ option_map on_deal (spec.endorse_words (map string_bytes words.now)) }
+{
+    match words {
+        [contract, deal, party] => {
+            Some(DealCommand::Endorse(contract.as_str(), deal.as_str(), party.as_str()))
+        }
+        _ => None,
+    }
+}
+
+fn hashes_words(words: &[String]) -> Option<DealCommand<'_>>
+    ensures { option_map command result ≡ option_map on_deal (spec.hashes_words (map string_bytes words.now)) }
+{
+    match words {
+        [contract, secrets] => Some(DealCommand::Hashes(contract.as_str(), secrets.as_str())),
+        _ => None,
+    }
+}
+
+fn show_words(words: &[String]) -> Option<DealCommand<'_>>
+    ensures { option_map command result ≡ chains.show_words (map string_bytes words.now) }
+{
+    match words {
+        [contract, deal] => Some(DealCommand::Show(contract.as_str(), deal.as_str())),
+        _ => None,
+    }
+}
+
 fn state_words(words: &[String]) -> Option<DealCommand<'_>>
     ensures { option_map command result ≡ chains.state_words (map string_bytes words.now) }
 {
@@ -129,6 +196,12 @@ pub fn command_of(alloc: Global, words: &[String]) -> Result<Option<DealCommand<
         "missing" => Ok(missing_words(rest)),
         "held" => Ok(held_words(rest)),
         "finish" => finish_words(alloc, rest),
+        "fund" => Ok(fund_words(rest)),
+        "warn" => Ok(warn_words(rest)),
+        "ready" => Ok(ready_words(rest)),
+        "endorse" => Ok(endorse_words(rest)),
+        "hashes" => Ok(hashes_words(rest)),
+        "show" => Ok(show_words(rest)),
         "state" => Ok(state_words(rest)),
         _ => Ok(None),
     }

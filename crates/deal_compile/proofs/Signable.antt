@@ -44,14 +44,14 @@ same_count : (n : ℕ) → (n == n) ≡ true
 same_count n = grind (arith, nat_tests)
 
 module _ (hash : List ℕ → List ℕ) (keys : Keys) (advert : Advert) (l : Listed) where
-  count : (spends : List Spent) (signers : List (List Label)) → length (inputs hash keys advert l spends signers) ≡ length spends
-  count [] signers = refl
-  count (spent ∷ spends) [] = ap suc (count spends [])
-  count (spent ∷ spends) (labels ∷ signers) = ap suc (count spends signers)
+  count : (k : ℕ) (spends : List Spent) (signers : List (List Label)) → length (inputs hash keys advert l k spends signers) ≡ length spends
+  count k [] signers = refl
+  count k (spent ∷ spends) [] = ap suc (count (k + 1) spends [])
+  count k (spent ∷ spends) (labels ∷ signers) = ap suc (count (k + 1) spends signers)
 
-  counted : (length (inputs hash keys advert l l.pending.spends l.signers) == length (map input_of l.pending.spends)) ≡ true
+  counted : (length (inputs hash keys advert l 0 l.pending.spends l.signers) == length (map input_of l.pending.spends)) ≡ true
   counted =
-      (λ j. count l.pending.spends l.signers j == length-map l.pending.spends input_of j)
+      (λ j. count 0 l.pending.spends l.signers j == length-map l.pending.spends input_of j)
       ∙ same_count (length l.pending.spends)
 
   signable : is_some_list l.pending.spends ≡ true → is_signable (transaction hash keys advert l) ≡ true

@@ -1,6 +1,6 @@
 //! A deal compiled.
 
-ghost use Rattle.std.specs.Prelude.{◌≡◌, map, None, true, is_some, IfOk};
+ghost use Rattle.std.specs.Prelude.{◌≡◌, map, filter, None, true, is_some, IfOk};
 ghost use Rattle.std.specs.List.{list_all};
 ghost use Rattle.spec_data.specs.Lists.{look_up};
 ghost use Rattle.spec_terms.specs.Precondition.{deposits, names_of};
@@ -15,10 +15,12 @@ ghost use Rattle.spec_deal.specs.declared.deal.Deal.{Deal as Given};
 ghost use Rattle.spec_deal.specs.Needed.{needed_deposits};
 ghost use Rattle.spec_deal.specs.Setting.{deal_keys, deal_instance};
 ghost use Rattle.spec_deal.specs.Transactions.{transactions as transactions_of};
+ghost use Rattle.spec_deal.specs.Used.{uses_key};
 ghost use Rattle.bm_compile.specs.Keyed.Detailed.{details as details_of};
+ghost use Rattle.deal_compile.specs.Keyed.{held_of};
 ghost use Rattle.deal_compile.specs.Signable.{is_signable};
 
-use crate::depositing::hash_scripts;
+use crate::depositing::{hash_scripts, users};
 use crate::keys::DealKeys;
 use crate::seen::is_well_formed;
 use crate::transactions::transactions;
@@ -46,7 +48,8 @@ impl Drop for CompiledDeal {
     }
 }
 
-// The deposit scripts of the participants are hashed.
+// The deposit scripts of the participants whose keys are used are hashed.
+#[tactic(auto, using(bm_hash::proofs::HashesLemmas::stops_early))]
 fn hash_deposits<H: Hash32 + Drop>(
     alloc: Global,
     trail: &mut Trail<H>,
@@ -55,12 +58,14 @@ fn hash_deposits<H: Hash32 + Drop>(
     deal: &Deal,
 ) -> Result<(), TrailError>
     requires clear { evidence_of (H.digest_of trail.old.hasher) trail.old.messages ≡ None }
-    requires keys { keys.now ≡ deal.now.keys }
+    requires keys { keys.now ≡ held_of deal.now }
     ensures { let hash = H.digest_of trail.old.hasher in
-        let scripts = map (party_script hash (deal_keys deal.now)) (people (deal_instance checked.now deal.now)) in
+        let keys = deal_keys deal.now in
+        let scripts = map (party_script hash keys) (filter (uses_key keys checked.now) (people (deal_instance checked.now deal.now))) in
         Hashes H.digest_of trail.old trail.new scripts result }
 {
-    hash_scripts(alloc, trail, keys, checked.parties())
+    let users = users(alloc, keys, checked, deal)?;
+    hash_scripts(alloc, trail, keys, &users)
 }
 
 // The strings of the compiled contract are hashed.
@@ -71,7 +76,7 @@ fn compile_checked<H: Hash32 + Drop>(
     checked: &Checked,
     deal: &Deal,
 ) -> Result<Details, TrailError>
-    requires keys { keys.now ≡ deal.now.keys }
+    requires keys { keys.now ≡ held_of deal.now }
     requires bound { list_all (λ d. is_some (look_up d.0 deal.now.deposits)) (deposits checked.now.pre) ≡ true }
     ensures details { let hash = H.digest_of trail.old.hasher in
         IfOk result (λ d. d ≡ details_of hash (deal_keys deal.now) (deal_instance checked.now deal.now)) }
@@ -90,7 +95,7 @@ fn compile_checked<H: Hash32 + Drop>(
     )
 }
 
-// The deposit scripts of the participants are hashed, and then the strings of the compiled contract.
+// The deposit scripts of those whose keys are used are hashed, and then the strings of the compiled contract.
 fn details<H: Hash32 + Drop>(
     alloc: Global,
     trail: &mut Trail<H>,
@@ -99,7 +104,7 @@ fn details<H: Hash32 + Drop>(
     deal: &Deal,
 ) -> Result<Details, TrailError>
     requires clear { evidence_of (H.digest_of trail.old.hasher) trail.old.messages ≡ None }
-    requires keys { keys.now ≡ deal.now.keys }
+    requires keys { keys.now ≡ held_of deal.now }
     requires bound { list_all (λ d. is_some (look_up d.0 deal.now.deposits)) (deposits checked.now.pre) ≡ true }
     ensures details { let hash = H.digest_of trail.old.hasher in
         IfOk result (λ d. d ≡ details_of hash (deal_keys deal.now) (deal_instance checked.now deal.now)) }
@@ -120,7 +125,7 @@ fn gather<H: Hash32>(
     details: Details,
 ) -> Result<CompiledDeal, OutOfMemory>
     ensures transactions { let hash = H.digest_of hasher.now in
-        (deal : Given) → keys.now ≡ deal.keys → details ≡ details_of hash (deal_keys deal) (deal_instance checked.now deal)
+        (deal : Given) → keys.now ≡ held_of deal → details ≡ details_of hash (deal_keys deal) (deal_instance checked.now deal)
         → IfOk result (λ c. c.transactions ≡ transactions_of hash (deal_keys deal) (deal_instance checked.now deal)) }
     ensures scripts { IfOk result (λ c. c.scripts ≡ details.scripts) }
 {
@@ -132,9 +137,9 @@ fn gather<H: Hash32>(
     })
 }
 
-/// A checked contract compiled at the keys, places and hashes of a deal, as contract 0. It hashes the deposit scripts of the
-/// participants, the scripts by position, and the strings of the initial transaction and of each path's, in the order of the text.
-/// Each transaction can be given to signers.
+/// A checked contract compiled at the keys, places, hashes and scripts of a deal, as contract 0. It hashes the deposit scripts of
+/// the participants whose keys are used, the scripts by position, and the strings of the initial transaction and of each path's, in the
+/// order of the text. Each transaction can be given to signers.
 #[tactic(auto, using(bm_hash::proofs::HashesLemmas::stopping, bm_hash::proofs::HashesLemmas::stops_late))]
 pub fn compile_deal<H: Hash32 + Drop>(
     alloc: Global,
@@ -155,7 +160,7 @@ pub fn compile_deal<H: Hash32 + Drop>(
     if trail.has_collided() {
         return Err(TrailError::Collided);
     }
-    let keys = DealKeys::of(alloc, deal.keys.as_slice())?;
+    let keys = DealKeys::of(alloc, deal)?;
     let made = details(alloc, trail, &keys, checked, deal)?;
     let compiled = gather(alloc, trail.hasher(), &keys, checked, made)?;
     Ok(compiled)

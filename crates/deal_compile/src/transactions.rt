@@ -2,6 +2,8 @@
 
 ghost use Rattle.std.specs.Prelude.{◌≡◌, ◌++◌, ◌∷◌, [], map, true, option_map, IfOk, IfSome, OnOk};
 ghost use Rattle.spec_terms.specs.Paths.{at as branch_of};
+ghost use Rattle.spec_terms.specs.Precondition.{persistent, names_of};
+ghost use Rattle.spec_deal.specs.Wallets.{puts_at};
 ghost use Rattle.bm_syntax.specs.View.{guarded};
 ghost use Rattle.deal_compile.specs.Parts as spec;
 ghost use Rattle.deal_compile.specs.Programs.{are_hashed};
@@ -13,7 +15,7 @@ use crate::programs::{Program, programs_of};
 use crate::seen::is_well_formed;
 use bm_compile::{Detailed, Details};
 use bm_hash::Hash32;
-use bm_syntax::{Guarded, Path, at};
+use bm_syntax::{Guarded, Name, Path, Pre, at, puts};
 use bm_tx::encode_stripped;
 use bm_wellformed::Checked;
 use deal_index::Indexed;
@@ -23,7 +25,30 @@ use spec_deal::Transaction;
 use spec_tool::Which;
 use std::alloc::Global;
 
-// A transaction by its name, the branch that it takes, and the labels whose keys sign its inputs.
+// The names of the persistent deposits.
+fn initial_deposits(alloc: Global, pre: &[Pre]) -> Result<Vec<Name>, OutOfMemory>
+    ensures { IfOk result (λ deposits. deposits.items ≡ names_of (persistent pre.now)) }
+{
+    let mut deposits = Vec::new(alloc);
+    for entry in pre {
+        if let Pre::Persistent { name, .. } = entry {
+            deposits.push(*name)?;
+        }
+    }
+    Ok(deposits)
+}
+
+// The names of the deposits that a branch puts.
+fn path_deposits<'a>(branch: Option<&'a Guarded>) -> &'a [Name]
+    ensures { result.now ≡ puts_at (option_map (λ b. guarded b.now) branch.entry) }
+{
+    match branch {
+        Some(branch) => puts(branch),
+        None => &[],
+    }
+}
+
+// A transaction by its name, the branch that it takes, the deposits that it spends, and the labels whose keys sign its inputs.
 fn transaction_for<H: Hash32>(
     alloc: Global,
     hasher: &H,
@@ -31,18 +56,19 @@ fn transaction_for<H: Hash32>(
     keys: &DealKeys,
     which: Which,
     branch: Option<&Guarded>,
+    deposits: &[Name],
     labels: &[Seq<Label>],
     detailed: &Detailed,
 ) -> Result<Transaction, OutOfMemory>
     requires { are_hashed (H.digest_of hasher.now) programs.now ≡ true }
     ensures { IfOk result (λ t. t ≡ spec.transaction_by (H.digest_of hasher.now) keys.now which (option_map (λ b. guarded b.now) branch.entry)
-        labels.now detailed.now) }
+        deposits.now labels.now detailed.now) }
 {
     let prepared = &detailed.prepared;
     let spends = detailed.pending.spends.as_slice();
     let digests = prepared.digests.as_slice();
     let inputs = inputs_for(
-        alloc, hasher, programs, keys, &which, branch, spends, digests, labels,
+        alloc, hasher, programs, keys, &which, branch, deposits, spends, digests, labels,
     )?;
     Ok(Transaction {
         which,
@@ -64,6 +90,7 @@ fn initial_for<H: Hash32>(
     requires { are_hashed (H.digest_of hasher.now) programs.now ≡ true }
     ensures { IfOk result (λ t. t ≡ spec.initial_transaction (H.digest_of hasher.now) keys.now checked.now init.now) }
 {
+    let deposits = initial_deposits(alloc, &checked.advert().pre)?;
     let labels = initial_labels(alloc, &checked.advert().pre)?;
     transaction_for(
         alloc,
@@ -72,6 +99,7 @@ fn initial_for<H: Hash32>(
         keys,
         Which::Init,
         None,
+        &deposits,
         labels.as_slice(),
         init,
     )
@@ -114,6 +142,7 @@ fn path_for<H: Hash32>(
         keys,
         which,
         branch,
+        path_deposits(branch),
         labels.as_slice(),
         detailed,
     )

@@ -6,7 +6,6 @@ use Rattle.spec_terms.specs.Order.{branch_paths}
 use Rattle.spec_terms.specs.Parties.{participants}
 use Rattle.spec_terms.specs.Precondition.{deposits, secrets, names_of}
 use Rattle.spec_terms.specs.declared.path.PathStep.{PathStep}
-use Rattle.spec_bitcoin.specs.declared.label.Label.{Label}
 use Rattle.spec_bitcoin.specs.declared.label.Label.TheVariants as labels
 use Rattle.spec_compiler.specs.declared.prepared.Prepared.{Prepared}
 use Rattle.spec_compiler.specs.declared.unsigned.Unsigned.{Unsigned}
@@ -21,7 +20,7 @@ use Rattle.spec_deal.specs.Needed.{deal_contract, path_labels, needed_labels, ne
 use Rattle.theory_script.proofs.Keyed.InOrder.{paths_in_order}
 use Rattle.theory_nodes.specs.Keyed.Walk.{node_paths}
 use Rattle.theory_nodes.proofs.Keyed.Walking.{paths_listed}
-use Rattle.deal_file.specs.Needs.{party_need, path_need, path_needs, node_needs}
+use Rattle.deal_file.specs.Needs.{party_need, path_needs, node_needs}
 
 -- ---- nodes
 

@@ -7,6 +7,7 @@ use bm_keys::label_behind;
 use bm_text::put;
 use bm_tx::put_word;
 use deal_index::Keyed;
+use spec_bitcoin::OutPoint;
 use spec_data::OutOfMemory;
 use spec_deal::{Entry, Needed, Value};
 use std::alloc::Global;
@@ -89,7 +90,33 @@ pub(crate) fn need_key(alloc: Global, needed: &Needed) -> Result<Vec<u8>, OutOfM
         Needed::Key(label) => label_behind(alloc, b'K', label),
         Needed::Deposit(name) => kind_and(alloc, b'D', name.bytes()),
         Needed::Hash(name) => kind_and(alloc, b'H', name.bytes()),
+        Needed::Network => kind_and(alloc, b'N', &[]),
+        Needed::Payee(party) => kind_and(alloc, b'P', party.bytes()),
     }
+}
+
+/// Whether a value may be given once alone. Many may be paid at one script.
+pub(crate) fn is_unique(value: &Value) -> bool
+    ensures { result ≡ spec.is_unique value.now }
+{
+    match value {
+        Value::Key(_) => true,
+        Value::Place(_) => true,
+        Value::Wallet(_, _) => true,
+        Value::Hash(_) => true,
+        Value::Network(_) => false,
+        Value::Script(_) => false,
+    }
+}
+
+// What the place of a deposit is found by, whoever brings it.
+fn place_key(alloc: Global, outpoint: &OutPoint) -> Result<Vec<u8>, OutOfMemory>
+    ensures { IfOk result (λ key. key.items ≡ spec.place_key outpoint.now) }
+{
+    let mut bytes = Vec::new(alloc);
+    put_word(&mut bytes, outpoint.vout)?;
+    put(&mut bytes, &outpoint.txid)?;
+    kind_and(alloc, b'D', &bytes)
 }
 
 /// What a value is found by.
@@ -98,12 +125,10 @@ pub(crate) fn value_key(alloc: Global, value: &Value) -> Result<Vec<u8>, OutOfMe
 {
     match value {
         Value::Key(bytes) => kind_and(alloc, b'K', bytes),
-        Value::Place(outpoint) => {
-            let mut bytes = Vec::new(alloc);
-            put_word(&mut bytes, outpoint.vout)?;
-            put(&mut bytes, &outpoint.txid)?;
-            kind_and(alloc, b'D', &bytes)
-        }
+        Value::Place(outpoint) => place_key(alloc, outpoint),
+        Value::Wallet(outpoint, _) => place_key(alloc, outpoint),
         Value::Hash(bytes) => kind_and(alloc, b'H', bytes),
+        Value::Network(hrp) => kind_and(alloc, b'N', hrp.bytes()),
+        Value::Script(bytes) => kind_and(alloc, b'S', bytes.as_slice()),
     }
 }

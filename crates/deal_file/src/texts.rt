@@ -32,6 +32,11 @@ pub fn put_needed(alloc: Global, out: &mut Vec<u8>, needed: &Needed) -> Result<(
             put(out, b"hash ")?;
             put(out, name.bytes())
         }
+        Needed::Network => put(out, b"network"),
+        Needed::Payee(party) => {
+            put(out, b"pay ")?;
+            put(out, party.bytes())
+        }
     }
 }
 
@@ -45,6 +50,8 @@ fn put_blank_line(alloc: Global, out: &mut Vec<u8>, needed: &Needed) -> Result<(
         Needed::Key(_) => put(out, b" ..\n"),
         Needed::Deposit(_) => put(out, b" .. ..\n"),
         Needed::Hash(_) => put(out, b" ..\n"),
+        Needed::Network => put(out, b" ..\n"),
+        Needed::Payee(_) => put(out, b" ..\n"),
     }
 }
 

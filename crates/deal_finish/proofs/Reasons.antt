@@ -6,7 +6,6 @@ use Rattle.spec_data.specs.Lists.{or_else}
 use Rattle.spec_terms.specs.Term as term
 use Rattle.spec_terms.specs.Core.{core, reveals_of, test_of}
 use Rattle.spec_terms.specs.declared.path.PathStep.{PathStep}
-use Rattle.spec_bitcoin.specs.declared.label.Label.{Label}
 use Rattle.spec_deal.specs.declared.entry.Shown.{Shown}
 use Rattle.spec_deal.specs.declared.finish.FinishRefusal.{FinishRefusal}
 use Rattle.spec_deal.specs.declared.finish.FinishRefusal.TheVariants as refusals
@@ -24,26 +23,15 @@ pub first_refuses : (e : FinishError) (a b : Option FinishRefusal) → Refuses e
 first_refuses (finishes.Refused refusal) a b h = ap (λ o. or_else o b) h
 first_refuses finishes.Memory a b h = tt
 
--- ---- endorsements and signatures
+-- ---- endorsements
 
 abbrev path_and_party : Slot → List PathStep × List ℕ
 path_and_party slot = (which_path slot.which, label_party slot.label)
-
-abbrev input_and_label : Slot → ℕ × Label
-input_and_label slot = (slot.input, slot.label)
-
-abbrev unsigned_refusal : Slot → FinishRefusal
-unsigned_refusal slot = refusals.Signature slot.input slot.label
 
 pub endorsement_is : (o : Option Slot) → option_map unendorsed_refusal o
     ≡ option_map (λ (p : List PathStep × List ℕ). refusals.Endorsement (p.0) (p.1)) (option_map path_and_party o)
 endorsement_is None = refl
 endorsement_is (Some slot) = refl
-
-pub signature_is : (o : Option Slot) → option_map unsigned_refusal o
-    ≡ option_map (λ (p : ℕ × Label). refusals.Signature (p.0) (p.1)) (option_map input_and_label o)
-signature_is None = refl
-signature_is (Some slot) = refl
 
 -- ---- the predicate
 

@@ -1,7 +1,8 @@
 -- The witnesses that the code fills in are those of the definition.
-use Rattle.std.proofs.Common.{◌≡◌, ℕ, ◌+◌, List, [], ◌∷◌, ◌++◌, length, Option, Some, None}
+use Rattle.std.proofs.Common.{◌≡◌, ℕ, ◌+◌, List, [], ◌∷◌, ◌++◌, length, map, Option, Some, None}
 use Rattle.std.proofs.Common.{refl, sym, ap, subst, ◌∙◌, arith, append_assoc}
 use Rattle.std.specs.Prelude.{reverse}
+use Rattle.std.specs.List.{flat_map}
 use Rattle.std.specs.Option.{option_map, option_map_or, option_and_then}
 use Rattle.spec_terms.specs.Term as term
 use Rattle.spec_terms.specs.Term.{Contract, branches}
@@ -12,7 +13,7 @@ use Rattle.spec_terms.specs.Paths.{Subterm, subterm_from, contract_under}
 use Rattle.spec_terms.specs.declared.path.PathStep.{PathStep}
 use Rattle.spec_terms.specs.declared.path.PathStep.TheVariants.{Branch as To}
 use Rattle.spec_bitcoin.specs.declared.label.Label.{Label}
-use Rattle.spec_compiler.specs.Keyed.Keys.{Keys, key_in}
+use Rattle.spec_compiler.specs.Keyed.Keys.{Keys}
 use Rattle.spec_compiler.specs.Keyed.Instance.{Instance, branch_path}
 use Rattle.spec_compiler.specs.Keyed.Transactions.{Standing, put_deposits, branch_unsigned, tx_of}
 use Rattle.spec_compiler.specs.Keyed.ByPath as by_path
@@ -30,9 +31,13 @@ use Rattle.theory_deal.proofs.Branches.{Found, branch_found}
 use Rattle.spec_deal.specs.declared.entry.Shown.{Shown}
 use Rattle.spec_deal.specs.declared.signed.Signed.{Signed}
 use Rattle.spec_deal.specs.declared.transaction.Transaction.{Transaction}
-use Rattle.spec_deal.specs.Finished.{strings_of, input_signatures, deposit_witnesses, branch_witness, path_witnesses, witnesses, finished}
-use Rattle.spec_deal.specs.Transactions.{input, inputs, transaction}
-use Rattle.deal_finish.specs.Filled.{signatures_by, signature_at, deposits_by, items_of, choice_items, path_items, path_by, by_which, witnesses_by, finished_by}
+use Rattle.spec_deal.specs.declared.transaction.Wallet.{Wallet}
+use Rattle.spec_deal.specs.Finished.{items_or_none, strings_of, input_signatures, deposit_witness, deposit_witnesses, branch_witness, path_witnesses, witnesses, finished}
+use Rattle.spec_deal.specs.Given.{witness_for}
+use Rattle.spec_deal.specs.Slots.{input_slots}
+use Rattle.spec_deal.specs.Transactions.{signer, input, inputs, transaction}
+use Rattle.spec_deal.specs.Wallets.{input_wallet, signer_key}
+use Rattle.deal_finish.specs.Filled.{signatures_by, signature_at, witness_at, wallet_by, deposit_by_wallet, deposits_by, items_of, choice_items, path_items, path_by, by_which, witnesses_by, finished_by}
 
 -- ---- the end of a path
 
@@ -60,18 +65,32 @@ module _ (hash : List ℕ → List ℕ) (keys : Keys) (s : Instance) (given : Li
     -- ---- signatures and deposits
 
     signatures_are : (k : ℕ) (spent : Spent) (labels : List Label)
-        → input_signatures hash keys s given l k spent labels ≡ signatures_by given bytes k (input hash keys s.advert l spent labels)
+        → input_signatures hash keys s given l k spent labels ≡ signatures_by given bytes k (input hash keys s.advert l k spent labels)
     signatures_are k spent [] = refl
     signatures_are k spent (label ∷ labels) =
-        ap (λ more. signature_at given bytes k (key_in hash keys label) ∷ more) (signatures_are k spent labels)
+        ap (λ more. signature_at given bytes k (signer_key hash keys (input_wallet keys s.advert l.which k) label) ∷ more)
+        (signatures_are k spent labels)
+
+    wallets_are : (k : ℕ) (spent : Spent) (labels : List Label)
+        → flat_map (λ slot. items_or_none (witness_for hash keys given slot)) (input_slots keys s.advert l k spent labels)
+        ≡ wallet_by given bytes k (map (signer hash keys s.advert l.which (input_wallet keys s.advert l.which k)) labels)
+    wallets_are k spent [] = refl
+    wallets_are k spent (label ∷ labels) =
+        ap (λ more. witness_at given bytes k (signer_key hash keys (input_wallet keys s.advert l.which k) label) ++ more)
+        (wallets_are k spent labels)
+
+    by_wallet : (k : ℕ) (spent : Spent) (labels : List Label) (w : Option Wallet) → deposit_witness hash keys s given l k spent labels w
+        ≡ deposit_by_wallet given bytes k (input hash keys s.advert l k spent labels) w
+    by_wallet k spent labels None = ap (λ (signatures : List (List ℕ)). signatures ++ spent.script ∷ []) (signatures_are k spent labels)
+    by_wallet k spent labels (Some w) = wallets_are k spent labels
 
     deposits_are : (k : ℕ) (spends : List Spent) (signers : List (List Label)) → length signers ≡ length spends
-        → deposit_witnesses hash keys s given l k spends signers ≡ deposits_by given bytes k (inputs hash keys s.advert l spends signers)
+        → deposit_witnesses hash keys s given l k spends signers ≡ deposits_by given bytes k (inputs hash keys s.advert l k spends signers)
     deposits_are k [] signers e = refl
     deposits_are k (spent ∷ spends) [] e = absurd (omega (arith, e))
     deposits_are k (spent ∷ spends) (labels ∷ signers) e =
         let fewer : length signers ≡ length spends = omega (arith, e) in
-        λ j. (signatures_are k spent labels j ++ spent.script ∷ []) ∷ deposits_are (k + 1) spends signers fewer j
+        λ j. by_wallet k spent labels (input_wallet keys s.advert l.which k) j ∷ deposits_are (k + 1) spends signers fewer j
 
   -- ---- paths
 
@@ -106,7 +125,7 @@ module _ (hash : List ℕ → List ℕ) (keys : Keys) (s : Instance) (given : Li
 
     by_signers : (signers : List (List Label)) → length signers ≡ length made.pending.spends
         → path_witnesses hash keys s given strings path made made.pending.spends signers
-        ≡ path_by s.advert given strings (bytes made) path (inputs hash keys s.advert made made.pending.spends signers)
+        ≡ path_by s.advert given strings (bytes made) path (inputs hash keys s.advert made 0 made.pending.spends signers)
     by_signers [] e = absurd (omega (arith, e))
     by_signers (labels ∷ others) e =
         let puts = put_deposits hash keys s (puts_of (core b)) in
@@ -140,7 +159,7 @@ module _ (hash : List ℕ → List ℕ) (keys : Keys) (s : Instance) (given : Li
       let many = signers_for_each hash keys s names.Init l e in
       ap (witnesses hash keys s given strings l) is
       ∙ deposits_are l 0 l.pending.spends l.signers many
-      ∙ sym (ap (by_which s.advert given strings (bytes l) (inputs hash keys s.advert l l.pending.spends l.signers)) is)
+      ∙ sym (ap (by_which s.advert given strings (bytes l) (inputs hash keys s.advert l 0 l.pending.spends l.signers)) is)
   filled_at (names.At path) l is e =
       by_ends path (end_at hash keys s path) (subterm_from (paths.position s.advert.root) path) refl (agrees_at hash keys s path) l e
 

@@ -1,6 +1,6 @@
 -- Witnesses, by what is known of the transactions.
 use Rattle.std.specs.Prelude.{ℕ, ◌+◌, List, [], ◌∷◌, ◌++◌, length, map, reverse, slice_get, Bool, ◌||◌, ◌==◌, Option, Some, None}
-use Rattle.std.specs.List.{find}
+use Rattle.std.specs.List.{find, flat_map}
 use Rattle.std.specs.Option.{option_map}
 use Rattle.spec_terms.specs.Term as term
 use Rattle.spec_terms.specs.Term.{Contract, branches}
@@ -22,8 +22,9 @@ use Rattle.spec_deal.specs.declared.signed.Signed.{Signed}
 use Rattle.spec_deal.specs.declared.transaction.Signer.{Signer}
 use Rattle.spec_deal.specs.declared.transaction.Input.{Input}
 use Rattle.spec_deal.specs.declared.transaction.Transaction.{Transaction}
+use Rattle.spec_deal.specs.declared.transaction.Wallet.{Wallet}
 use Rattle.spec_deal.specs.Transactions.{is_at}
-use Rattle.spec_deal.specs.Finished.{bytes_or_none, strings_of}
+use Rattle.spec_deal.specs.Finished.{bytes_or_none, items_or_none, strings_of}
 
 -- the branch of a transaction; the initial one has none
 abbrev pub branch_of : Advert → Which → Option term.Guarded
@@ -46,8 +47,22 @@ signatures_by given tx k input = map (λ (s : Signer). signature_at given tx k s
 
 -- ---- deposits
 
+-- the items of a witness of input k of the transaction with these bytes, by this key
+abbrev pub witness_at : List Signed → List ℕ → ℕ → List ℕ → List (List ℕ)
+witness_at given tx k key =
+    items_or_none (option_map (λ (g : Signed). g.witness) (find (is_at (record { tx = tx; input = k; key = key })) given))
+
+-- what the wallet gave
+abbrev pub wallet_by : List Signed → List ℕ → ℕ → List Signer → List (List ℕ)
+wallet_by given tx k signers = flat_map (λ (s : Signer). witness_at given tx k s.key) signers
+
+-- the owner's signature, and the script; or what the wallet gave
+abbrev pub deposit_by_wallet : List Signed → List ℕ → ℕ → Input → Option Wallet → List (List ℕ)
+deposit_by_wallet given tx k input None = signatures_by given tx k input ++ input.spent.script ∷ []
+deposit_by_wallet given tx k input (Some w) = wallet_by given tx k input.signers
+
 abbrev pub deposit_by : List Signed → List ℕ → ℕ → Input → List (List ℕ)
-deposit_by given tx k input = signatures_by given tx k input ++ input.spent.script ∷ []
+deposit_by given tx k input = deposit_by_wallet given tx k input input.wallet
 
 -- of the inputs from number k on
 abbrev pub deposits_by : List Signed → List ℕ → ℕ → List Input → List (List (List ℕ))

@@ -48,6 +48,22 @@ fn put_signature(
     put(out, &text)
 }
 
+// A wallet's witness that is missing.
+#[tactic(auto, using(std::proofs::Common::append_assoc))]
+fn put_wallet(
+    alloc: Global,
+    out: &mut Vec<u8>,
+    input: u32,
+    deposit: &Name,
+) -> Result<(), OutOfMemory>
+    ensures { OnOk result (out.new.items ≡ out.old.items ++ texts.wallet_text input deposit.now) }
+{
+    put(out, b"signature ")?;
+    put_decimal(alloc, out, input as u64)?;
+    put(out, b" W:")?;
+    put(out, deposit.bytes())
+}
+
 // Why a transaction isn't finished.
 #[tactic(auto, using(std::proofs::Common::append_assoc))]
 fn put_reason(alloc: Global, out: &mut Vec<u8>, refusal: &FinishRefusal) -> Result<(), OutOfMemory>
@@ -56,6 +72,7 @@ fn put_reason(alloc: Global, out: &mut Vec<u8>, refusal: &FinishRefusal) -> Resu
     match refusal {
         FinishRefusal::Endorsement(path, party) => put_endorsement(alloc, out, path, party),
         FinishRefusal::Signature(input, label) => put_signature(alloc, out, *input, label),
+        FinishRefusal::Wallet(input, deposit) => put_wallet(alloc, out, *input, deposit),
         FinishRefusal::Secret(name) => {
             put(out, b"secret ")?;
             put(out, name.bytes())

@@ -59,7 +59,7 @@ fn signed(alloc: Global, transaction: &Transaction, given: &Given) -> Result<(),
         → Allows result (spec.signature_refusal hash keys s given.now l) }
 {
     match first_unsigned(alloc, transaction, given)? {
-        Some((input, label)) => Err(FinishError::Refused(FinishRefusal::Signature(input, label))),
+        Some(refusal) => Err(FinishError::Refused(refusal)),
         None => Ok(()),
     }
 }

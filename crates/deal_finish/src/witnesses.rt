@@ -1,6 +1,6 @@
 //! The witnesses of a transaction's inputs.
 
-ghost use Rattle.std.specs.Prelude.{◌≡◌, ◌<◌, ◌+◌, ◌^◌, ◌++◌, Some, length, slice_get, option_map, IfOk, IfSome, OnOk};
+ghost use Rattle.std.specs.Prelude.{◌≡◌, ◌<◌, ◌+◌, ◌^◌, ◌++◌, Some, None, length, slice_get, option_map, IfOk, IfSome, OnOk};
 ghost use Rattle.std.specs.Option.{option_copied};
 ghost use Rattle.spec_terms.specs.Faults.{IsWellFormed};
 ghost use Rattle.spec_terms.specs.Paths.{contract_under};
@@ -9,7 +9,7 @@ ghost use Rattle.bm_syntax.specs.View.{contract, guarded};
 ghost use Rattle.deal_finish.specs.Filled as spec;
 
 use crate::secrets::strings_of;
-use crate::signatures::{put_items, put_reversed, signatures_of};
+use crate::signatures::{put_items, put_reversed, signatures_of, wallet_witness};
 use bm_branch::witness;
 use bm_plan::{last_branch, position_of};
 use bm_syntax::{Contract, Guarded, Path, choice_at, reveals};
@@ -23,7 +23,22 @@ use std::alloc::{AllocError, Global};
 
 // ---- deposits
 
-// The witness of a deposit: its owner's signature, and the script.
+// The witness of a deposit of a key: its owner's signature, and the script.
+fn key_witness(
+    alloc: Global,
+    given: &Given,
+    tx: &[u8],
+    number: u32,
+    input: &Input,
+) -> Result<Seq<Bytes>, OutOfMemory>
+    ensures { IfOk result (λ items. items ≡ spec.deposit_by_wallet given.now tx.now number input.now None) }
+{
+    let mut items = signatures_of(alloc, given, tx, number, input)?;
+    items.push(input.spent.script.copy(alloc)?)?;
+    Ok(Seq::of(items))
+}
+
+// The witness of a deposit: of its key, or what its wallet gave.
 fn deposit_witness(
     alloc: Global,
     given: &Given,
@@ -33,9 +48,10 @@ fn deposit_witness(
 ) -> Result<Seq<Bytes>, OutOfMemory>
     ensures { IfOk result (λ items. items ≡ spec.deposit_by given.now tx.now number input.now) }
 {
-    let mut items = signatures_of(alloc, given, tx, number, input)?;
-    items.push(input.spent.script.copy(alloc)?)?;
-    Ok(Seq::of(items))
+    match &input.wallet {
+        Some(_) => wallet_witness(alloc, given, tx, number, input.signers.as_slice()),
+        None => key_witness(alloc, given, tx, number, input),
+    }
 }
 
 // The number of the next input; one of more than 32 bits counts as out of memory.

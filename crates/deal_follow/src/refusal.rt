@@ -215,6 +215,21 @@ fn opens<H: Hash32>(
     is_true(alloc, hasher, script, items)
 }
 
+// Whether a witness opens what an input spends: of a wallet's nothing but an item is asked.
+fn opens_input<H: Hash32>(
+    alloc: Global,
+    hasher: &H,
+    spent: &Input,
+    witness: &[Bytes],
+) -> Result<bool, OutOfMemory>
+    ensures { IfOk result (λ b. b ≡ spec.opens_input (H.digest_of hasher.now) spent.now witness.now) }
+{
+    match &spent.wallet {
+        None => opens(alloc, hasher, spent.spent.script.as_slice(), witness),
+        Some(_) => Ok(!witness.is_empty()),
+    }
+}
+
 // The first witness that doesn't open what its input spends.
 fn witnesses_reason<H: Hash32>(
     alloc: Global,
@@ -230,8 +245,7 @@ fn witnesses_reason<H: Hash32>(
         let Some((input, others)) = rest.split_first() else {
             return Ok(None);
         };
-        let script = one.spent.script.as_slice();
-        if !opens(alloc, hasher, script, input.witness.as_slice())? {
+        if !opens_input(alloc, hasher, one, input.witness.as_slice())? {
             return Ok(Some(ChainReason::Witness(number)));
         }
         number = next_number(number)?;

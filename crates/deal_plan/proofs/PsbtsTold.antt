@@ -1,5 +1,5 @@
 -- What is given to signers is the transaction as it is defined.
-use Rattle.std.proofs.Common.{◌≡◌, ℕ, List, [], ◌∷◌, ◌++◌, length, map, true, refl, ap, ◌∙◌}
+use Rattle.std.proofs.Common.{◌≡◌, ℕ, ◌+◌, List, [], ◌∷◌, ◌++◌, length, map, true, refl, ap, ◌∙◌}
 use Rattle.std.specs.Prelude.{◌&&◌, ◌==◌}
 use Rattle.std.specs.List.{list_all, flat_map}
 use Rattle.std.proofs.lemmas.Bool.{and_parts, and_from}
@@ -17,23 +17,26 @@ use Rattle.spec_tool.specs.PsbtText.{psbt_line}
 use Rattle.spec_terms.specs.Precondition.{names_of}
 use Rattle.spec_deal.specs.declared.transaction.Input.{Input}
 use Rattle.spec_deal.specs.declared.transaction.Transaction.{Transaction}
-use Rattle.spec_deal.specs.DealText.{unsigned_input, unsigned_psbt, psbts_text}
+use Rattle.spec_deal.specs.DealText.{unsigned_input, unsigned_inputs, unsigned_psbt, psbts_text}
 use Rattle.spec_deal.specs.Transactions.{inputs, transaction, transactions}
+use Rattle.spec_deal.specs.Wallets.{input_wallet}
 use Rattle.deal_compile.specs.Signable.{is_signable}
 use Rattle.deal_plan.specs.PsbtParts.{input_for, psbt_for}
 
 module _ (hash : List ℕ → List ℕ) (keys : Keys) (advert : Advert) (l : Listed) where
-  inputs_told : (spends : List Spent) (signers : List (List Label)) → map input_for (inputs hash keys advert l spends signers)
-      ≡ map (unsigned_input hash) spends
-  inputs_told [] signers = refl
-  inputs_told (spent ∷ spends) [] = ap (λ rest. unsigned_input hash spent ∷ rest) (inputs_told spends [])
-  inputs_told (spent ∷ spends) (labels ∷ signers) = ap (λ rest. unsigned_input hash spent ∷ rest) (inputs_told spends signers)
+  inputs_told : (k : ℕ) (spends : List Spent) (signers : List (List Label)) → map input_for (inputs hash keys advert l k spends signers)
+      ≡ unsigned_inputs hash keys advert l k spends
+  inputs_told k [] signers = refl
+  inputs_told k (spent ∷ spends) [] =
+      ap (λ rest. unsigned_input hash (input_wallet keys advert l.which k) spent ∷ rest) (inputs_told (k + 1) spends [])
+  inputs_told k (spent ∷ spends) (labels ∷ signers) =
+      ap (λ rest. unsigned_input hash (input_wallet keys advert l.which k) spent ∷ rest) (inputs_told (k + 1) spends signers)
 
-  pub psbt_told : psbt_for (transaction hash keys advert l) ≡ unsigned_psbt hash l
-  psbt_told = ap (λ is. record { tx = tx_of l.pending; inputs = is }) (inputs_told l.pending.spends l.signers)
+  pub psbt_told : psbt_for (transaction hash keys advert l) ≡ unsigned_psbt hash keys advert l
+  psbt_told = ap (λ is. record { tx = tx_of l.pending; inputs = is }) (inputs_told 0 l.pending.spends l.signers)
 
 lines_told : (hash : List ℕ → List ℕ) (keys : Keys) (advert : Advert) (ls : List Listed)
-    → flat_map (λ t. psbt_line (psbt_for t)) (map (transaction hash keys advert) ls) ≡ flat_map (λ l. psbt_line (unsigned_psbt hash l)) ls
+    → flat_map (λ t. psbt_line (psbt_for t)) (map (transaction hash keys advert) ls) ≡ flat_map (λ l. psbt_line (unsigned_psbt hash keys advert l)) ls
 lines_told hash keys advert [] = refl
 lines_told hash keys advert (l ∷ ls) = λ j. psbt_line (psbt_told hash keys advert l j) ++ lines_told hash keys advert ls j
 

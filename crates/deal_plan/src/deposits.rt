@@ -4,17 +4,14 @@ ghost use Rattle.std.specs.Prelude.{◌≡◌, ◌++◌, true, is_some, option_m
 ghost use Rattle.std.specs.List.{list_all};
 ghost use Rattle.spec_data.specs.Lists.{look_up};
 ghost use Rattle.spec_terms.specs.Precondition.{deposits as deposits_of, holding};
-ghost use Rattle.spec_bitcoin.specs.declared.label.Label.TheVariants.{Deposit};
-ghost use Rattle.spec_deal.specs.Needed.{same_label};
-ghost use Rattle.spec_deal.specs.Setting.{key_at};
 ghost use Rattle.deal_plan.specs.Parts as spec;
 
+use crate::outputs::{own_script, put_own_or_key};
 use crate::transactions::put_txid;
 use bm_hash::Hash32;
-use bm_keys::{deposit_script, pay_to};
-use bm_text::{put, put_decimal, put_hex};
+use bm_text::{put, put_decimal};
 use bm_wellformed::Checked;
-use spec_bitcoin::{Label, OutPoint};
+use spec_bitcoin::OutPoint;
 use spec_data::{Name, OutOfMemory};
 use spec_deal::Deal;
 use spec_terms::Pre;
@@ -30,29 +27,6 @@ fn place_of<'a>(bound: &'a [(Name, OutPoint)], name: &Name) -> Option<&'a OutPoi
         }
     }
     None
-}
-
-// Whether a label is that of a party's deposits.
-#[tactic(auto, unfolding(spec_bitcoin::specs::Keys::label_text))]
-fn is_deposit_of(label: &Label, party: &Name) -> bool
-    ensures { result ≡ same_label label.now (Deposit party.now) }
-{
-    match label {
-        Label::Deposit { party: owner } => *owner == *party,
-        Label::Branch { .. } => false,
-    }
-}
-
-// A party's key of its deposits; one of zeros, which no wallet has, without one. The labels of deposits stand first.
-fn party_key(keys: &[(Label, [u8; 33])], party: &Name) -> [u8; 33]
-    ensures { result ≡ key_at keys.now (Deposit party.now) }
-{
-    for (label, key) in keys {
-        if is_deposit_of(label, party) {
-            return *key;
-        }
-    }
-    [0; 33]
 }
 
 // `deposit NAME TXID VOUT`, with a space behind.
@@ -74,38 +48,27 @@ fn put_place(
     put(out, b" ")
 }
 
-// The output script for whoever shows this script.
-#[tactic(auto, unfolding(crate::specs::Parts::program_text))]
-fn put_program<H: Hash32>(
-    alloc: Global,
-    hasher: &H,
-    out: &mut Vec<u8>,
-    script: &[u8],
-) -> Result<(), OutOfMemory>
-    ensures { OnOk result (out.new.items ≡ out.old.items ++ spec.program_text (H.digest_of hasher.now) script.now) }
-{
-    let program = pay_to(&hasher.hash32(script));
-    put_hex(alloc, out, &program)
-}
-
-// `deposit NAME TXID VOUT VALUE HEX`, where the last is the output script that has to stand at the place.
+// `deposit NAME TXID VOUT VALUE SCRIPT`, where the last is the output script that has to stand at the place, with its address.
 #[tactic(auto, using(std::proofs::Common::append_assoc))]
 fn put_placed<H: Hash32>(
     alloc: Global,
     hasher: &H,
     out: &mut Vec<u8>,
+    deal: &Deal,
     name: &Name,
     place: &OutPoint,
+    owner: &Name,
     value: u64,
-    script: &[u8],
 ) -> Result<(), OutOfMemory>
-    ensures { OnOk result (out.new.items ≡ out.old.items
-        ++ spec.placed_parts (H.digest_of hasher.now) name.now place.now value script.now) }
+    ensures { let own = look_up name.now deal.now.wallets in
+        let shown = spec.shown_output (H.digest_of hasher.now) deal.now own (spec.key_script deal.now owner.now) in
+        OnOk result (out.new.items ≡ out.old.items ++ spec.placed_parts name.now place.now value shown) }
 {
     put_place(alloc, out, name, place)?;
     put_decimal(alloc, out, value)?;
     put(out, b" ")?;
-    put_program(alloc, hasher, out, script)?;
+    let own = own_script(deal.wallets.as_slice(), name);
+    put_own_or_key(alloc, hasher, out, deal, own, owner)?;
     put(out, b"\n")
 }
 
@@ -114,21 +77,19 @@ fn put_deposit<H: Hash32>(
     alloc: Global,
     hasher: &H,
     out: &mut Vec<u8>,
-    keys: &[(Label, [u8; 33])],
-    bound: &[(Name, OutPoint)],
+    deal: &Deal,
     name: &Name,
     owner: &Name,
     value: u64,
 ) -> Result<(), OutOfMemory>
-    requires { is_some (look_up name.now bound.now) ≡ true }
+    requires { is_some (look_up name.now deal.now.deposits) ≡ true }
     ensures { OnOk result (out.new.items ≡ out.old.items
-        ++ spec.deposit_text (H.digest_of hasher.now) keys.now bound.now (name.now, holding owner.now value)) }
+        ++ spec.deposit_text (H.digest_of hasher.now) deal.now (name.now, holding owner.now value)) }
 {
-    let Some(place) = place_of(bound, name) else {
+    let Some(place) = place_of(deal.deposits.as_slice(), name) else {
         unreachable!()
     };
-    let script = deposit_script(&party_key(keys, owner));
-    put_placed(alloc, hasher, out, name, place, value, &script)
+    put_placed(alloc, hasher, out, deal, name, place, owner, value)
 }
 
 // The line of each deposit of a precondition, in order.
@@ -136,21 +97,20 @@ fn put_deposits<H: Hash32>(
     alloc: Global,
     hasher: &H,
     out: &mut Vec<u8>,
-    keys: &[(Label, [u8; 33])],
-    bound: &[(Name, OutPoint)],
+    deal: &Deal,
     pre: &[Pre],
 ) -> Result<(), OutOfMemory>
-    requires { list_all (λ d. is_some (look_up d.0 bound.now)) (deposits_of pre.now) ≡ true }
+    requires { list_all (λ d. is_some (look_up d.0 deal.now.deposits)) (deposits_of pre.now) ≡ true }
     ensures { OnOk result (out.new.items ≡ out.old.items
-        ++ flat_map (spec.deposit_text (H.digest_of hasher.now) keys.now bound.now) (deposits_of pre.now)) }
+        ++ flat_map (spec.deposit_text (H.digest_of hasher.now) deal.now) (deposits_of pre.now)) }
 {
     for entry in pre {
         match entry {
             Pre::Persistent { party, value, name } => {
-                put_deposit(alloc, hasher, out, keys, bound, name, party, *value)?
+                put_deposit(alloc, hasher, out, deal, name, party, *value)?
             }
             Pre::Volatile { party, value, name } => {
-                put_deposit(alloc, hasher, out, keys, bound, name, party, *value)?
+                put_deposit(alloc, hasher, out, deal, name, party, *value)?
             }
             Pre::Secret { .. } => {}
         }
@@ -165,25 +125,17 @@ fn pre_of(checked: &Checked) -> &[Pre]
     &checked.advert().pre
 }
 
-// Where the deposits lie.
-fn places(deal: &Deal) -> &[(Name, OutPoint)]
-    ensures { result.now ≡ deal.now.deposits }
-{
-    deal.deposits.as_slice()
-}
-
 /// The line of each deposit of a deal, in order.
 pub(crate) fn put_all<H: Hash32>(
     alloc: Global,
     hasher: &H,
     out: &mut Vec<u8>,
-    keys: &[(Label, [u8; 33])],
     checked: &Checked,
     deal: &Deal,
 ) -> Result<(), OutOfMemory>
     requires { list_all (λ d. is_some (look_up d.0 deal.now.deposits)) (deposits_of checked.now.pre) ≡ true }
     ensures { OnOk result (out.new.items ≡ out.old.items
-        ++ flat_map (spec.deposit_text (H.digest_of hasher.now) keys.now deal.now.deposits) (deposits_of checked.now.pre)) }
+        ++ flat_map (spec.deposit_text (H.digest_of hasher.now) deal.now) (deposits_of checked.now.pre)) }
 {
-    put_deposits(alloc, hasher, out, keys, places(deal), pre_of(checked))
+    put_deposits(alloc, hasher, out, deal, pre_of(checked))
 }

@@ -1,8 +1,10 @@
-//! What a deal is in texts: its plan, with scripts, deposits, transactions, digests, and who signs what; and its transactions as partially
+//! What a deal is in texts: its plan, with scripts, deposits, payees, transactions, digests, and who signs what; and its transactions as partially
 //! signed ones, for signers, by BIP 174.
 #![tactic(auto)]
 
 mod deposits;
+mod outputs;
+mod payees;
 mod plan;
 mod psbts;
 mod transactions;

@@ -14,17 +14,17 @@ ghost use Rattle.spec_deal.specs.Transactions.{transactions as transactions_of};
 ghost use Rattle.deal_plan.specs.Parts as spec;
 
 use crate::deposits::put_all;
+use crate::payees::put_payees;
 use crate::transactions::{put_scripts, put_transactions};
 use bm_hash::Hash32;
 use bm_text::put;
 use bm_wellformed::Checked;
 use deal_compile::CompiledDeal;
-use spec_bitcoin::Label;
 use spec_data::OutOfMemory;
 use spec_deal::Deal;
 use std::alloc::Global;
 
-// The scripts, the deposits, and the transactions in order.
+// The scripts, the deposits, the payees, and the transactions in order.
 #[tactic(auto, using(std::proofs::Common::append_assoc))]
 fn put_plan<H: Hash32>(
     alloc: Global,
@@ -32,16 +32,16 @@ fn put_plan<H: Hash32>(
     out: &mut Vec<u8>,
     checked: &Checked,
     deal: &Deal,
-    keys: &[(Label, [u8; 33])],
     compiled: &CompiledDeal,
 ) -> Result<(), OutOfMemory>
     requires { list_all (λ d. is_some (look_up d.0 deal.now.deposits)) (deposits_of checked.now.pre) ≡ true }
-    ensures { OnOk result (out.new.items ≡ out.old.items ++ spec.plan_by (H.digest_of hasher.now) keys.now deal.now.deposits
-        checked.now.pre compiled.now.scripts compiled.now.transactions) }
+    ensures { OnOk result (out.new.items ≡ out.old.items ++ spec.plan_by (H.digest_of hasher.now) deal.now checked.now
+        compiled.now.scripts compiled.now.transactions) }
 {
     put(out, b"contract 0 compiled\n")?;
     put_scripts(alloc, out, compiled.scripts.as_slice())?;
-    put_all(alloc, hasher, out, keys, checked, deal)?;
+    put_all(alloc, hasher, out, checked, deal)?;
+    put_payees(alloc, hasher, out, checked, deal)?;
     put_transactions(alloc, out, compiled.transactions.as_slice())
 }
 
@@ -54,17 +54,16 @@ fn plan<H: Hash32>(
     compiled: &CompiledDeal,
 ) -> Result<Vec<u8>, OutOfMemory>
     requires { list_all (λ d. is_some (look_up d.0 deal.now.deposits)) (deposits_of checked.now.pre) ≡ true }
-    ensures { IfOk result (λ text. text.items ≡ spec.plan_by (H.digest_of hasher.now) deal.now.keys deal.now.deposits
-        checked.now.pre compiled.now.scripts compiled.now.transactions) }
+    ensures { IfOk result (λ text. text.items ≡ spec.plan_by (H.digest_of hasher.now) deal.now checked.now
+        compiled.now.scripts compiled.now.transactions) }
 {
     let mut out = Vec::new(alloc);
-    let keys = deal.keys.as_slice();
-    put_plan(alloc, hasher, &mut out, checked, deal, keys, compiled)?;
+    put_plan(alloc, hasher, &mut out, checked, deal, compiled)?;
     Ok(out)
 }
 
-/// The plan of a compiled deal: each script, each deposit with the output script that its place must have, and each transaction with
-/// its digests and who signs them.
+/// The plan of a compiled deal: each script, each deposit with the output script that its place must have, where each party is paid, and
+/// each transaction with its digests and who signs them.
 pub fn plan_text<H: Hash32>(
     alloc: Global,
     hasher: &H,
@@ -78,7 +77,7 @@ pub fn plan_text<H: Hash32>(
     requires scripts { let hash = H.digest_of hasher.now in
         compiled.now.scripts ≡ scripts_of hash (deal_keys deal.now) (deal_instance checked.now deal.now) }
     ensures { let hash = H.digest_of hasher.now in
-        IfOk result (λ text. text.items ≡ text_of hash (deal_keys deal.now) (deal_instance checked.now deal.now)) }
+        IfOk result (λ text. text.items ≡ text_of hash deal.now.network (deal_keys deal.now) (deal_instance checked.now deal.now)) }
 {
     plan(alloc, hasher, checked, deal, compiled)
 }

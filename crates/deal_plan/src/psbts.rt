@@ -14,20 +14,30 @@ ghost use Rattle.deal_plan.specs.PsbtParts as spec;
 
 use bm_psbt::{Psbt, base64_text, encode};
 use bm_text::put;
-use spec_data::{OutOfMemory, Seq};
+use spec_data::{Bytes, OutOfMemory, Seq};
 use spec_deal::{Input, Transaction};
 use spec_tool::PsbtInput;
 use std::alloc::Global;
 
-// An input for signers: the output that it spends, its script, and hash type ALL.
+// The script that an input's key signs, if a key does.
+fn signed_script(alloc: Global, input: &Input) -> Result<Option<Bytes>, OutOfMemory>
+    ensures { IfOk result (λ script. script ≡ spec.signed_script input.now) }
+{
+    match &input.wallet {
+        Some(_) => Ok(None),
+        None => Ok(Some(input.spent.script.copy(alloc)?)),
+    }
+}
+
+// An input for signers: the output that it spends, and for a key its script and hash type ALL. A wallet signs as it does by default.
 fn input_for(alloc: Global, input: &Input) -> Result<PsbtInput, OutOfMemory>
     ensures { IfOk result (λ made. made ≡ spec.input_for input.now) }
 {
     Ok(PsbtInput {
         spent: Some(input.output.copy(alloc)?),
         partial: Seq::new(alloc),
-        all: true,
-        script: Some(input.spent.script.copy(alloc)?),
+        all: input.wallet.is_none(),
+        script: signed_script(alloc, input)?,
         witness: None,
     })
 }
@@ -88,11 +98,11 @@ fn lines(alloc: Global, transactions: &[Transaction]) -> Result<Vec<u8>, OutOfMe
 }
 
 /// A transaction of a deal for signers, as one line of Base64 with its end: the unsigned transaction, and for each input the output
-/// that it spends, hash type ALL and the script, without a signature.
+/// that it spends, and where a key signs it hash type ALL and the script, without a signature.
 pub fn psbt_text(alloc: Global, transaction: &Transaction) -> Result<Vec<u8>, OutOfMemory>
     requires { is_signable transaction.now ≡ true }
     ensures { (hash : List ℕ → List ℕ) (keys : Keys) (advert : Advert) (l : Listed) → transaction.now ≡ transaction_of hash keys advert l
-        → IfOk result (λ text. text.items ≡ psbt_line (unsigned_psbt hash l)) }
+        → IfOk result (λ text. text.items ≡ psbt_line (unsigned_psbt hash keys advert l)) }
 {
     line(alloc, transaction)
 }

@@ -6,12 +6,15 @@ ghost use Rattle.spec_data.specs.Digits.{hex_text};
 ghost use Rattle.spec_text.specs.PlanText.{script_line};
 ghost use Rattle.spec_tool.specs.Keyed.Listed.{which_text};
 ghost use Rattle.spec_deal.specs.DealText.{line_of, verb_text};
+ghost use Rattle.spec_deal.specs.Wallets.{signer_text};
 ghost use Rattle.deal_plan.specs.Parts as spec;
 
 use bm_keys::{put_label, put_path};
 use bm_text::{put, put_decimal, put_hex};
+use deal_compile::has_digest;
+use spec_bitcoin::Label;
 use spec_data::{Bytes, OutOfMemory};
-use spec_deal::{Input, Signer, Transaction, Verb};
+use spec_deal::{Input, Signer, Transaction, Verb, Wallet};
 use spec_terms::Path;
 use spec_tool::Which;
 use std::alloc::Global;
@@ -104,19 +107,56 @@ fn put_digest(
     put(out, b"\n")
 }
 
-// `sign WHICH k LABEL VERB`
+// The name of whose signature it is: `W:` and the deposit that the wallet brings, or else the label of the key.
+fn put_signatory(
+    alloc: Global,
+    out: &mut Vec<u8>,
+    wallet: &Option<Wallet>,
+    label: &Label,
+) -> Result<(), OutOfMemory>
+    ensures { OnOk result (out.new.items ≡ out.old.items ++ signer_text wallet.now label.now) }
+{
+    match wallet {
+        Some(wallet) => {
+            put(out, b"W:")?;
+            put(out, wallet.deposit.bytes())
+        }
+        None => put_label(alloc, out, label),
+    }
+}
+
+// The line of a digest, where it is known that a signature signs it.
+fn put_digest_of(
+    alloc: Global,
+    out: &mut Vec<u8>,
+    which: &Which,
+    number: u64,
+    wallet: &Option<Wallet>,
+    digest: &[u8; 32],
+) -> Result<(), OutOfMemory>
+    ensures { OnOk result (out.new.items ≡ out.old.items ++ spec.digest_text which.now number wallet.now digest.now) }
+{
+    if has_digest(wallet) {
+        put_digest(alloc, out, which, number, digest)
+    } else {
+        Ok(())
+    }
+}
+
+// `sign WHICH k SIGNATORY VERB`
 #[tactic(auto, using(std::proofs::Common::append_assoc))]
 fn put_sign(
     alloc: Global,
     out: &mut Vec<u8>,
     which: &Which,
     number: u64,
+    wallet: &Option<Wallet>,
     signer: &Signer,
 ) -> Result<(), OutOfMemory>
-    ensures { OnOk result (out.new.items ≡ out.old.items ++ spec.sign_text which.now number signer.now) }
+    ensures { OnOk result (out.new.items ≡ out.old.items ++ spec.sign_text which.now number wallet.now signer.now) }
 {
     put_place(alloc, out, b"sign", which, number)?;
-    put_label(alloc, out, &signer.label)?;
+    put_signatory(alloc, out, wallet, &signer.label)?;
     put(out, b" ")?;
     put_verb(out, signer.verb)?;
     put(out, b"\n")
@@ -127,17 +167,18 @@ fn put_signs(
     out: &mut Vec<u8>,
     which: &Which,
     number: u64,
+    wallet: &Option<Wallet>,
     signers: &[Signer],
 ) -> Result<(), OutOfMemory>
-    ensures { OnOk result (out.new.items ≡ out.old.items ++ flat_map (spec.sign_text which.now number) signers.now) }
+    ensures { OnOk result (out.new.items ≡ out.old.items ++ flat_map (spec.sign_text which.now number wallet.now) signers.now) }
 {
     for signer in signers {
-        put_sign(alloc, out, which, number, signer)?;
+        put_sign(alloc, out, which, number, wallet, signer)?;
     }
     Ok(())
 }
 
-// The digest of an input, and who signs it.
+// The digest of an input, if it has one, and who signs it.
 #[tactic(auto, using(std::proofs::Common::append_assoc))]
 fn put_input(
     alloc: Global,
@@ -148,8 +189,9 @@ fn put_input(
 ) -> Result<(), OutOfMemory>
     ensures { OnOk result (out.new.items ≡ out.old.items ++ spec.input_text which.now number input.now) }
 {
-    put_digest(alloc, out, which, number, &input.digest)?;
-    put_signs(alloc, out, which, number, input.signers.as_slice())
+    let wallet = &input.wallet;
+    put_digest_of(alloc, out, which, number, wallet, &input.digest)?;
+    put_signs(alloc, out, which, number, wallet, input.signers.as_slice())
 }
 
 #[tactic(auto, using(std::proofs::Common::append_assoc))]

@@ -1,4 +1,5 @@
 pub mod FoundStrings
 pub mod LinesSay
 pub mod Hashing
+pub mod Offered
 pub mod RefusedTold

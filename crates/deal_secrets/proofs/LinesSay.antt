@@ -30,6 +30,10 @@ given_none : (b : Bool) (word : List ℕ) → given b word ≡ None → b ≡ fa
 given_none true word e = cc
 given_none false word e = refl
 
+-- the name that is found is the word
+pub is_word : (names : List (List ℕ)) (word name : List ℕ) → one_of names word ≡ Some name → name ≡ word
+is_word names word name e = (given_some (is_among word names) word name e).1
+
 -- a secret of this name
 pub secret_found : (pre : List Pre) (word name party : List ℕ) (entry : Pre) (i : ℕ) → i < length pre → entry ≡ get_or pre i entry
     → entry ≡ Secret party name → name ≡ word
@@ -47,6 +51,10 @@ secret_found pre word name party entry i less at is same h =
 
 pub not_longer : (n : ℕ) (text : List ℕ) → length text ≤ n → nat_lt n (length text) ≡ false
 not_longer n text h = grind (arith, h)
+
+pub none_found : (o : Option Shown) → option_map (λ (x : Shown). x.line) o ≡ None → o ≡ None
+none_found None e = refl
+none_found (Some x) e = cc
 
 -- a string that no line has given, of the size of a secret
 pub new_line : (hash : List ℕ → List ℕ) (s : Instance) (messages : List (List ℕ)) (shown : Shown) (o : Option Shown)

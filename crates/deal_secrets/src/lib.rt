@@ -1,8 +1,9 @@
 //! Reads files of secrets for `deal finish`: each string has to be a secret of the contract, of the right size and
-//! hash.
+//! hash; and for `deal hashes`, which prints their hashes, so that any will do.
 #![tactic(auto)]
 
 mod error;
+mod hashes;
 mod lines;
 mod reading;
 mod refusals;
@@ -10,6 +11,7 @@ mod required;
 mod strings;
 
 pub use error::SecretsError;
-pub use reading::read_secrets;
+pub use hashes::hashes_text;
+pub use reading::{read_offered, read_secrets};
 pub use refusals::put_secrets_refused;
 pub use strings::{Strings, known};

@@ -1,6 +1,6 @@
 //! What a line of a file of secrets says.
 
-ghost use Rattle.std.specs.Prelude.{◌≡◌, ◌∷◌, [], ℕ, List, None, map, true, OnOk};
+ghost use Rattle.std.specs.Prelude.{◌≡◌, ◌∷◌, [], ℕ, List, Some, None, map, option_map, true, IfOk, IfSome, OnOk};
 ghost use Rattle.std.specs.List.{find};
 ghost use Rattle.std.specs.Str.{bytes_eq};
 ghost use Rattle.spec_data.specs.Digits as digits;
@@ -14,9 +14,10 @@ ghost use Rattle.spec_deal.specs.Needed.{needed_secrets};
 ghost use Rattle.spec_deal.specs.SecretFile as spec;
 ghost use Rattle.bm_hash.specs.Messages.{evidence_of};
 ghost use Rattle.deal_secrets.specs.Gives.{Leads, LeadsOn, IsHashed, Takes, reads_over};
+ghost use Rattle.deal_secrets.specs.Offers.{string_of, shown_at, Judges, JudgesNew, JudgesLine};
 
 use crate::error::LineError;
-use crate::required::{is_hash_of, secret_named};
+use crate::required::{fits, secret_named};
 use crate::strings::{Strings, has_length};
 use bm_hash::{Hash32, Trail, TrailError};
 use bm_runfile::words_of;
@@ -28,8 +29,9 @@ use std::alloc::Global;
 
 // The string that a word gives to a secret.
 fn shown_by(alloc: Global, line: u32, name: Name, word: &[u8]) -> Result<Shown, LineError>
-    ensures { (hash : List ℕ → List ℕ) (s : Instance) (messages : List (List ℕ)) (taken : List Told)
+    ensures leads { (hash : List ℕ → List ℕ) (s : Instance) (messages : List (List ℕ)) (taken : List Told)
         → Leads hash s messages taken result (spec.with_bytes hash s messages taken line name (digits.read_hex word.now)) }
+    ensures shown { IfOk result (λ shown. Some shown ≡ option_map (string_of line name) (digits.read_hex word.now)) }
 {
     match read_hex(alloc, word) {
         Ok(bytes) => Ok(Shown {
@@ -57,8 +59,9 @@ fn named(
     name: &[u8],
     word: &[u8],
 ) -> Result<Shown, LineError>
-    ensures { (hash : List ℕ → List ℕ) (s : Instance) (messages : List (List ℕ)) (taken : List Told) → s.advert ≡ checked.now
+    ensures leads { (hash : List ℕ → List ℕ) (s : Instance) (messages : List (List ℕ)) (taken : List Told) → s.advert ≡ checked.now
         → Leads hash s messages taken result (spec.named_line hash s messages taken line name.now word.now) }
+    ensures shown { IfOk result (λ shown. Some shown ≡ option_map (string_of line name.now) (digits.read_hex word.now)) }
 {
     match secret_of(checked, name) {
         Some(name) => shown_by(alloc, line, name, word),
@@ -73,8 +76,9 @@ fn secret_line(
     line: u32,
     words: &[&[u8]],
 ) -> Result<Shown, LineError>
-    ensures { (hash : List ℕ → List ℕ) (s : Instance) (messages : List (List ℕ)) (taken : List Told) → s.advert ≡ checked.now
+    ensures leads { (hash : List ℕ → List ℕ) (s : Instance) (messages : List (List ℕ)) (taken : List Told) → s.advert ≡ checked.now
         → Leads hash s messages taken result (spec.secret_line hash s messages taken line (map (λ w. w.now) words.now)) }
+    ensures shown { IfOk result (λ shown. Some shown ≡ shown_at line (map (λ w. w.now) words.now)) }
 {
     match words {
         [first, name, word] => {
@@ -103,6 +107,7 @@ fn is_of_state(word: &[u8]) -> bool
         || b"needs".as_slice() == word
         || b"never:".as_slice() == word
         || b"waits".as_slice() == word
+        || b"unverified".as_slice() == word
 }
 
 // Whether these words of a line say nothing of secrets: there are none, or they are of such a line.
@@ -122,8 +127,9 @@ fn shown_of(
     line: u32,
     words: &[&[u8]],
 ) -> Result<Option<Shown>, LineError>
-    ensures { (hash : List ℕ → List ℕ) (s : Instance) (messages : List (List ℕ)) (taken : List Told) → s.advert ≡ checked.now
+    ensures leads { (hash : List ℕ → List ℕ) (s : Instance) (messages : List (List ℕ)) (taken : List Told) → s.advert ≡ checked.now
         → LeadsOn hash s messages taken result (spec.line_says hash s messages taken line (map (λ w. w.now) words.now)) }
+    ensures shown { IfOk result (λ o. IfSome o (λ shown. Some shown ≡ shown_at line (map (λ w. w.now) words.now))) }
 {
     if is_read_over(words) {
         return Ok(None);
@@ -147,11 +153,11 @@ fn hash_of<H: Hash32 + Drop>(trail: &mut Trail<H>, bytes: &[u8]) -> Result<[u8; 
     }
 }
 
-// Takes a string that is new and has as many bytes as a secret, unless it hasn't the hash of its secret. It is hashed.
+// Takes a string that is new and has as many bytes as a secret, unless it hasn't the hash that its secret is to have. It is hashed.
 fn take_new<H: Hash32 + Drop>(
     alloc: Global,
     trail: &mut Trail<H>,
-    hashes: &[(Name, [u8; 32])],
+    hashes: Option<&[(Name, [u8; 32])]>,
     strings: &mut Strings,
     shown: Shown,
 ) -> Result<(), LineError>
@@ -160,12 +166,12 @@ fn take_new<H: Hash32 + Drop>(
     ensures hasher { trail.new.hasher ≡ trail.old.hasher }
     ensures clear { OnOk result (evidence_of (H.digest_of trail.old.hasher) trail.new.messages ≡ None) }
     ensures takes { let hash = H.digest_of trail.old.hasher in
-        (s : Instance) → s.hashes ≡ hashes.now
+        (s : Instance) → Judges hash s (option_map (λ h. h.now) hashes.entry) shown
         → Takes hash trail.old.messages trail.new.messages strings.old strings.new result
         (spec.hashed_line hash s shown (collision_with hash trail.old.messages shown.bytes)) }
 {
     let digest = hash_of(trail, shown.bytes.as_slice())?;
-    if !is_hash_of(hashes, &shown.name, &digest) {
+    if !fits(hashes, &shown.name, &digest) {
         return Err(LineError::Bad(SecretReason::Hash));
     }
     strings.push(alloc, shown)?;
@@ -176,7 +182,7 @@ fn take_new<H: Hash32 + Drop>(
 fn take_shown<H: Hash32 + Drop>(
     alloc: Global,
     trail: &mut Trail<H>,
-    hashes: &[(Name, [u8; 32])],
+    hashes: Option<&[(Name, [u8; 32])]>,
     strings: &mut Strings,
     shown: Shown,
 ) -> Result<(), LineError>
@@ -184,7 +190,7 @@ fn take_shown<H: Hash32 + Drop>(
     ensures hasher { trail.new.hasher ≡ trail.old.hasher }
     ensures clear { OnOk result (evidence_of (H.digest_of trail.old.hasher) trail.new.messages ≡ None) }
     ensures takes { let hash = H.digest_of trail.old.hasher in
-        (s : Instance) → s.hashes ≡ hashes.now
+        (s : Instance) → JudgesNew hash s (option_map (λ h. h.now) hashes.entry) strings.old shown
         → Takes hash trail.old.messages trail.new.messages strings.old strings.new result
         (spec.if_new hash s trail.old.messages shown (find (λ (x : Told). bytes_eq x.name shown.name) strings.old)) }
 {
@@ -202,7 +208,7 @@ pub(crate) fn take_line<H: Hash32 + Drop>(
     alloc: Global,
     trail: &mut Trail<H>,
     checked: &Checked,
-    hashes: &[(Name, [u8; 32])],
+    hashes: Option<&[(Name, [u8; 32])]>,
     strings: &mut Strings,
     number: u32,
     line: &[u8],
@@ -211,7 +217,8 @@ pub(crate) fn take_line<H: Hash32 + Drop>(
     ensures hasher { trail.new.hasher ≡ trail.old.hasher }
     ensures clear { OnOk result (evidence_of (H.digest_of trail.old.hasher) trail.new.messages ≡ None) }
     ensures takes { let hash = H.digest_of trail.old.hasher in
-        (s : Instance) → s.advert ≡ checked.now → s.hashes ≡ hashes.now
+        (s : Instance) → s.advert ≡ checked.now
+        → JudgesLine hash s (option_map (λ h. h.now) hashes.entry) strings.old number (words_of line.now)
         → Takes hash trail.old.messages trail.new.messages strings.old strings.new result
         (spec.line_says hash s trail.old.messages strings.old number (words_of line.now)) }
 {

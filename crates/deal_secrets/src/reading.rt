@@ -1,15 +1,17 @@
 //! The strings that a text gives to the secrets of a contract.
 
-ghost use Rattle.std.specs.Prelude.{◌≡◌, ◌≤◌, [], None, length};
+ghost use Rattle.std.specs.Prelude.{◌≡◌, ◌≤◌, [], None, length, option_map};
 ghost use Rattle.spec_compiler.specs.Keyed.Instance.{Instance};
 ghost use Rattle.spec_compiler.specs.Keyed.Keys.{Keys};
 ghost use Rattle.spec_text.specs.Lines.{lines_of};
 ghost use Rattle.spec_deal.specs.Hashed.{deal_strings};
+ghost use Rattle.spec_deal.specs.HashesText.{read_offered};
 ghost use Rattle.spec_deal.specs.SecretFile as spec;
 ghost use Rattle.spec_deal.specs.Sizes.{most_secrets_bytes};
 ghost use Rattle.bm_hash.specs.Messages.{evidence_of};
 ghost use Rattle.bm_hash.specs.Trails.{Hashed};
 ghost use Rattle.deal_secrets.specs.Gives.{Gives, at_line};
+ghost use Rattle.deal_secrets.specs.Offers.{IsWanted};
 
 use crate::error::{LineError, SecretsError};
 use crate::lines::take_line;
@@ -34,19 +36,19 @@ fn at_line(error: LineError, line: u32) -> SecretsError
     }
 }
 
-// The strings of a text that isn't too long.
+// The strings of a text that isn't too long, by these hashes, or whatever their hashes are.
 fn read_lines<H: Hash32 + Drop>(
     alloc: Global,
     trail: &mut Trail<H>,
     checked: &Checked,
-    hashes: &[(Name, [u8; 32])],
+    hashes: Option<&[(Name, [u8; 32])]>,
     text: &[u8],
 ) -> Result<Strings, SecretsError>
     requires clear { evidence_of (H.digest_of trail.old.hasher) trail.old.messages ≡ None }
     requires size { length text.now ≤ most_secrets_bytes }
     ensures hasher { trail.new.hasher ≡ trail.old.hasher }
     ensures gives { let hash = H.digest_of trail.old.hasher in
-        (s : Instance) → s.advert ≡ checked.now → s.hashes ≡ hashes.now
+        (s : Instance) → s.advert ≡ checked.now → IsWanted hash s (option_map (λ h. h.now) hashes.entry) text.now
         → Gives (evidence_of hash trail.new.messages) result (spec.read_lines hash s trail.old.messages [] 1 (lines_of text.now)) }
 {
     let mut strings = Strings::new(alloc);
@@ -85,5 +87,24 @@ pub fn read_secrets<H: Hash32 + Drop>(
     if text.len() > MOST_SECRETS_BYTES {
         return Err(SecretsError::Refused(SecretFault::Size));
     }
-    read_lines(alloc, trail, checked, hashes, text)
+    read_lines(alloc, trail, checked, Some(hashes), text)
+}
+
+/// The strings that a text gives to the secrets of a contract, whatever their hashes are, or why it is refused. Each string is hashed;
+/// where two of them collide, the trail has the evidence.
+pub fn read_offered<H: Hash32 + Drop>(
+    alloc: Global,
+    trail: &mut Trail<H>,
+    checked: &Checked,
+    text: &[u8],
+) -> Result<Strings, SecretsError>
+    requires { trail.old.messages ≡ [] }
+    ensures hasher { trail.new.hasher ≡ trail.old.hasher }
+    ensures gives { let hash = H.digest_of trail.old.hasher in
+        Gives (evidence_of hash trail.new.messages) result (read_offered hash checked.now text.now) }
+{
+    if text.len() > MOST_SECRETS_BYTES {
+        return Err(SecretsError::Refused(SecretFault::Size));
+    }
+    read_lines(alloc, trail, checked, None, text)
 }

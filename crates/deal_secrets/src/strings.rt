@@ -91,6 +91,13 @@ impl Strings {
         }
     }
 
+    /// The strings in order.
+    pub(crate) fn entries(&self) -> &[Entry]
+        ensures { map shown_in result.now ≡ self.now }
+    {
+        self.entries.as_slice()
+    }
+
     /// The string of the secret of this name.
     pub fn string(&self, name: &Name) -> Option<&Bytes>
         ensures string { option_map (λ b. b.now) result ≡ string_for self.now name.now }

@@ -9,7 +9,7 @@ use Rattle.spec_deal.specs.Shape.{is_strict}
 use Rattle.spec_deal.specs.Transactions.{Required}
 use Rattle.spec_deal.specs.Verifier.{Verifier}
 use Rattle.spec_deal.specs.SignatureFile.{Taken, same_place, is_required, is_verified, taken_once, take_signature, take_signatures}
-use Rattle.spec_deal.specs.SignatureFile.{spent_fits, script_fits, witness_fits, final_signature, take_input}
+use Rattle.spec_deal.specs.SignatureFile.{spent_fits, script_fits, witness_fits, final_signature, take_key_input}
 use Rattle.spec_deal.specs.declared.transaction.Input.{Input}
 use Rattle.spec_tool.specs.declared.psbt.PsbtInput.{PsbtInput}
 use Rattle.deal_signatures.specs.declared.error.LineError.{LineError}
@@ -53,7 +53,7 @@ pub take_both : (v : Verifier) (required : List Required) (tx : List ℕ) (k : �
     ≡ and_then (take_signatures v required tx k given ps) (λ more. take_signatures v required tx k more qs)
 take_both v required tx k given [] qs = refl
 take_both v required tx k given (p ∷ ps) qs =
-    by_taken (take_signature v required given (record { tx = tx; input = k; key = p.0; signature = p.1 }))
+    by_taken (take_signature v required given (record { tx = tx; input = k; key = p.0; signature = p.1; witness = [] }))
     (λ more. take_both v required tx k more ps qs)
   where
     by_taken : (r : Taken)
@@ -97,7 +97,7 @@ pub fitting : (v : Verifier) (required : List Required) (tx : List ℕ) (k : ℕ
     (a b : Bool) (final : List Pairing) → script ≡ i.spent.script
     → a ≡ spent_fits i.output said.spent → a ≡ true → b ≡ script_fits script said.script → b ≡ true
     → witness_fits script said.witness ≡ true → final_signature script said.witness ≡ final
-    → take_signatures v required tx k given (said.partial ++ final) ≡ take_input v required tx k given i said
+    → take_signatures v required tx k given (said.partial ++ final) ≡ take_key_input v required tx k given i said
 fitting v required tx k given i said script a b final same e h f j fits is =
     let f' : script_fits i.spent.script said.script ≡ true = ap (λ t. script_fits t said.script) (sym same) ∙ (sym f ∙ j) in
     let fits' : witness_fits i.spent.script said.witness ≡ true = ap (λ t. witness_fits t said.witness) (sym same) ∙ fits in

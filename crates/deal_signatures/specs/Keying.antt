@@ -1,12 +1,17 @@
 -- The byte strings by which signatures and where they are needed are found.
-use Rattle.std.specs.Prelude.{ℕ, ◌^◌, List, ◌++◌, length, Bool, ◌&&◌, ◌==◌, nat_lt}
+use Rattle.std.specs.Prelude.{ℕ, ◌^◌, List, [], ◌++◌, length, Bool, ◌&&◌, ◌==◌, nat_lt}
 use Rattle.spec_bitcoin.specs.Spelling.{word}
 use Rattle.spec_deal.specs.declared.signed.Signed.{Signed}
+use Rattle.spec_deal.specs.Setting.{no_key}
 use Rattle.spec_deal.specs.Transactions.{Spot, Required}
 
 -- a signature of an input of the transaction with these bytes
 abbrev pub signed_by : List ℕ → ℕ → List ℕ → List ℕ → Signed
-signed_by tx input key signature = record { tx = tx; input = input; key = key; signature = signature }
+signed_by tx input key signature = record { tx = tx; input = input; key = key; signature = signature; witness = [] }
+
+-- a wallet's witness of it
+abbrev pub witnessed_by : List ℕ → ℕ → List (List ℕ) → Signed
+witnessed_by tx input items = record { tx = tx; input = input; key = no_key; signature = []; witness = items }
 
 -- the same place without a signature
 abbrev pub spot_of : List ℕ → ℕ → List ℕ → Spot

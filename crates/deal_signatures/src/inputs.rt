@@ -1,4 +1,4 @@
-//! The signatures of a transaction's inputs.
+//! The signatures and witnesses of a transaction's inputs.
 
 ghost use Rattle.std.specs.Prelude.{◌≡◌, ◌++◌, option_map};
 ghost use Rattle.spec_deal.specs.SignatureFile as spec;
@@ -10,6 +10,7 @@ use crate::given::Given;
 use crate::required::{Outstanding, narrow};
 use crate::same::{final_signature, script_fits, spent_fits};
 use crate::taking::{take_signature, take_signatures};
+use crate::wallets::take_wallet_input;
 use spec_data::Bytes;
 use spec_deal::{Input, SignatureReason};
 use spec_tool::PsbtInput;
@@ -55,8 +56,8 @@ fn take_fitting(
     }
 }
 
-// The signatures of an input, those of its records first.
-fn take_input(
+// The signatures of an input that keys of the deal sign, those of its records first.
+fn take_key_input(
     alloc: Global,
     required: &Outstanding,
     given: &mut Given,
@@ -66,7 +67,7 @@ fn take_input(
     said: &PsbtInput,
 ) -> Result<(), LineError>
     ensures { Takes given.old given.new result
-        (spec.take_input secp256k1 required.now tx.now number given.old input.now said.now) }
+        (spec.take_key_input secp256k1 required.now tx.now number given.old input.now said.now) }
 {
     let script = input.spent.script.as_slice();
     if !spent_fits(&input.output, &said.spent) {
@@ -87,6 +88,25 @@ fn take_input(
         said.partial.as_slice(),
         last,
     )
+}
+
+// The signatures of an input, or the witness that its wallet gives.
+fn take_input(
+    alloc: Global,
+    required: &Outstanding,
+    given: &mut Given,
+    tx: &[u8],
+    number: u32,
+    input: &Input,
+    said: &PsbtInput,
+) -> Result<(), LineError>
+    ensures { Takes given.old given.new result
+        (spec.take_input secp256k1 required.now tx.now number given.old input.now said.now) }
+{
+    match &input.wallet {
+        None => take_key_input(alloc, required, given, tx, number, input, said),
+        Some(wallet) => take_wallet_input(alloc, given, tx, number, input, wallet, said),
+    }
 }
 
 /// The signatures of the inputs in order, as far as something is said of them.

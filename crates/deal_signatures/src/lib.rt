@@ -1,5 +1,6 @@
 //! Files of signatures: what wallets signed, read against the transactions of a deal, and why a file is refused. A signature has the shape
-//! that nodes relay, strict DER by BIP 66 with the hash type ALL behind it and the low S of BIP 146, and verifies under its key.
+//! that nodes relay, strict DER by BIP 66 with the hash type ALL behind it and the low S of BIP 146, and verifies under its key. The final
+//! witness of an input that spends a wallet's deposit is taken as it is, and is verified as far as that is known of its output's script.
 #![tactic(auto)]
 
 mod error;
@@ -14,8 +15,11 @@ mod required;
 mod same;
 mod shape;
 mod taking;
+mod wallets;
+mod witnesses;
 
 pub use error::SignatureError;
 pub use given::Given;
 pub use reading::read_signatures;
 pub use refusals::put_signatures_refused;
+pub use witnesses::{first_item, second_item};

@@ -1,12 +1,20 @@
 //! The byte string by which a signature is found.
 
 ghost use Rattle.std.specs.Prelude.{◌≡◌, true, IfOk};
+ghost use Rattle.spec_deal.specs.Setting.{no_key};
 ghost use Rattle.deal_signatures.specs.Keying.{place_key, is_place};
 
 use bm_text::put;
 use bm_tx::put_word;
 use spec_data::OutOfMemory;
 use std::alloc::Global;
+
+/// The key by which wallets' witnesses are found: it is none, and no wallet has it.
+pub(crate) fn wallet_key() -> [u8; 33]
+    ensures { result ≡ no_key }
+{
+    [0; 33]
+}
 
 /// The number of the input, the key and the bytes of the transaction, one behind the other.
 #[tactic(auto, using(std::proofs::Common::append_assoc))]

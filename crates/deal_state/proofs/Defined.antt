@@ -1,6 +1,6 @@
 -- What is missing and what is printed, by the transactions, is what is defined.
-use Rattle.std.proofs.Common.{◌≡◌, ℕ, ◌+◌, List, [], ◌∷◌, ◌++◌, length, map, Bool, true, false, not, cond, refl, sym, ap, ◌∙◌, append_assoc, arith}
-use Rattle.std.specs.Prelude.{filter, ◌==◌, ◌||◌, Option, Some, None}
+use Rattle.std.proofs.Common.{◌≡◌, ℕ, ◌+◌, List, [], ◌∷◌, ◌++◌, length, map, Bool, true, false, not, cond, refl, sym, ap, ◌∙◌, append_assoc, append-nil, arith}
+use Rattle.std.specs.Prelude.{filter, ◌==◌, ◌&&◌, ◌||◌, Option, Some, None, is_some, codes}
 use Rattle.std.specs.List.{flat_map, list_any}
 use Rattle.std.proofs.lemmas.Bool.Decides.{nat_tests}
 use Rattle.spec_bitcoin.specs.declared.label.Label.{Label}
@@ -10,17 +10,20 @@ use Rattle.spec_terms.specs.Precondition.{secrets, names_of}
 use Rattle.spec_compiler.specs.Keyed.Instance.{Instance, people}
 use Rattle.spec_compiler.specs.Keyed.Keys.{Keys}
 use Rattle.spec_compiler.specs.declared.unsigned.Spent.{Spent}
+use Rattle.spec_compiler.specs.declared.unsigned.Unsigned.{Unsigned}
 use Rattle.spec_tool.specs.declared.which.Which.{Which}
 use Rattle.spec_tool.specs.declared.which.Which.TheVariants as names
 use Rattle.spec_tool.specs.Keyed.Listed.{Listed, listed, same_which}
 use Rattle.spec_deal.specs.declared.entry.Shown.{Shown}
+use Rattle.spec_deal.specs.declared.finish.Verb.{Verb}
 use Rattle.spec_deal.specs.declared.signed.Signed.{Signed}
 use Rattle.spec_deal.specs.declared.transaction.Transaction.{Transaction}
+use Rattle.spec_deal.specs.declared.transaction.Wallet.{Wallet}
 use Rattle.spec_deal.specs.Finished.{which_branch}
-use Rattle.spec_deal.specs.Given.{has}
+use Rattle.spec_deal.specs.Given.{has, is_unverified}
 use Rattle.spec_deal.specs.SecretFile.{string_for}
-use Rattle.spec_deal.specs.Slots.{Slot, input_slots, slots_from, listed_slots, slots}
-use Rattle.spec_deal.specs.Transactions.{signer, input, inputs, transaction, transactions}
+use Rattle.spec_deal.specs.Slots.{Slot, listed_slots, slots}
+use Rattle.spec_deal.specs.Transactions.{transaction, transactions}
 use Rattle.spec_chain.specs.declared.output.Output.{Output}
 use Rattle.spec_chain.specs.declared.requirement.Requirement.{Requirement}
 use Rattle.spec_chain.specs.declared.requirement.Requirement.TheVariants as requirements
@@ -28,13 +31,17 @@ use Rattle.spec_chain.specs.Chain.{Course}
 use Rattle.spec_chain.specs.Following.{State}
 use Rattle.spec_chain.specs.Outstanding as spec
 use Rattle.spec_chain.specs.Outstanding.{asked, known, is_needed_for, signature_requirement, signature_requirements, height_requirements}
-use Rattle.spec_chain.specs.Outstanding.{deposits_outstanding, secrets_outstanding, outstanding, waits_for}
-use Rattle.spec_chain.specs.StateText.{state_text, string_line, height_line, prospect_text, waits_line, past_text, prospects_text}
-use Rattle.deal_missing.specs.Required.{Required, signer_required, is_there}
+use Rattle.spec_chain.specs.Outstanding.{unverified_for, deposits_outstanding, secrets_outstanding, outstanding, waits_for}
+use Rattle.spec_chain.specs.StateText.{state_text, string_line, height_line, unverified_line, prospect_text, waits_line, past_text, prospects_text}
+use Rattle.deal_missing.specs.Required.{Required, required}
 use Rattle.deal_missing.proofs.Told as missing
-use Rattle.deal_state.specs.Prospects.{initial_if, asked_by, is_needed_by, requirement_of, requirement_unless, requirement_if_needed, input_requirements}
-use Rattle.deal_state.specs.Prospects.{inputs_requirements, transaction_requirements, signatures_by, predicate_if, parts_by, outstanding_by, prospects_by}
-use Rattle.deal_state.specs.Prospects.{future_text, state_by, text_by}
+use Rattle.deal_state.specs.declared.signatures.Unverified.{Unverified}
+use Rattle.deal_state.specs.Lines as by
+use Rattle.deal_state.specs.Lines.{unverified_text}
+use Rattle.deal_state.specs.Prospects.{initial_if, asked_by, is_needed_by, requirement_of, requirement_unless, signatures_by}
+use Rattle.deal_state.specs.Prospects.{unverified_when, unverified_if_needed, unverified_by, predicate_if, parts_by, outstanding_by}
+use Rattle.deal_state.specs.Prospects.{Chance, chance_of, prospects_by, chance_text, is_awaited_by, future_text, state_by, text_by}
+use Rattle.deal_state.proofs.Worded.{unverified_is}
 
 -- ---- what may come
 
@@ -50,93 +57,123 @@ asked_is s state = ap (λ (ws : List Which). ws ++ flat_map (spec.branches_of s)
 
 -- ---- signatures
 
+map_append : {X Y : Type 0} (f : X → Y) (xs ys : List X) → map f (xs ++ ys) ≡ map f xs ++ map f ys
+map_append f [] ys = refl
+map_append f (x ∷ xs) ys = ap (λ more. f x ∷ more) (map_append f xs ys)
+
 needed_is : (which : Which) (slot : Slot) → is_needed_for which slot ≡ is_needed_by which (same_which slot.which which) slot.verb
 needed_is names.Init slot = refl
 needed_is (names.At path) slot = refl
 
-module _ (hash : List ℕ → List ℕ) (keys : Keys) (given : List Signed) (which : Which) where
-  -- those of these signatures that are needed and aren't there
-  abbrev lacking : List Slot → List Slot
-  lacking xs = filter (λ slot. not (has hash keys given slot)) xs
+module _ (hash : List ℕ → List ℕ) (keys : Keys) where
+  -- all that are needed
+  abbrev wanted : List Slot → List Required
+  wanted xs = map (missing.requirement_of hash keys) xs
 
-  abbrev requirements_of : List Slot → List Requirement
-  requirements_of xs = map signature_requirement (filter (is_needed_for which) (lacking xs))
+  all_listed : (advert : Advert) (ls : List Listed)
+      → wanted (flat_map (listed_slots keys advert) ls) ≡ required (map (transaction hash keys advert) ls)
+  all_listed advert [] = refl
+  all_listed advert (l ∷ ls) =
+      map_append (missing.requirement_of hash keys) (listed_slots keys advert l) (flat_map (listed_slots keys advert) ls)
+      ∙ (λ j. missing.listed_required hash keys advert l j ++ all_listed advert ls j)
 
-  abbrev one_requirement : Bool → Bool → Slot → List Requirement
-  one_requirement needed there slot =
-      cond needed (requirement_unless there (requirement_of (missing.requirement_of hash keys slot))) []
+  wanted_is : (s : Instance) → required (transactions hash keys s) ≡ wanted (slots hash keys s)
+  wanted_is s = sym (all_listed s.advert (listed hash keys s))
 
-  one_more : (x : Slot) (xs : List Slot) (needed there : Bool) → is_needed_for which x ≡ needed → has hash keys given x ≡ there
-      → requirements_of (x ∷ xs) ≡ one_requirement needed there x ++ requirements_of xs
-  one_more x xs true true n h = ap (λ b. map signature_requirement (filter (is_needed_for which) (cond (not b) (x ∷ lacking xs) (lacking xs)))) h
-  one_more x xs false true n h = ap (λ b. map signature_requirement (filter (is_needed_for which) (cond (not b) (x ∷ lacking xs) (lacking xs)))) h
-  one_more x xs true false n h =
-      ap (λ b. map signature_requirement (filter (is_needed_for which) (cond (not b) (x ∷ lacking xs) (lacking xs)))) h
-      ∙ ap (λ b. map signature_requirement (cond b (x ∷ filter (is_needed_for which) (lacking xs)) (filter (is_needed_for which) (lacking xs)))) n
-  one_more x xs false false n h =
-      ap (λ b. map signature_requirement (filter (is_needed_for which) (cond (not b) (x ∷ lacking xs) (lacking xs)))) h
-      ∙ ap (λ b. map signature_requirement (cond b (x ∷ filter (is_needed_for which) (lacking xs)) (filter (is_needed_for which) (lacking xs)))) n
+  -- ---- a slot by its wallet
 
-  one_by : (x : Slot) (xs : List Slot) → requirements_of (x ∷ xs)
-      ≡ one_requirement (is_needed_by which (same_which x.which which) x.verb) (is_there given (missing.requirement_of hash keys x)) x
-      ++ requirements_of xs
-  one_by x xs =
-      one_more x xs (is_needed_for which x) (has hash keys given x) refl refl
-      ∙ (λ j. one_requirement (needed_is which x j) (missing.has_is hash keys given x j) x ++ requirements_of xs)
+  module _ (which : Which) (pending : Unsigned) (k : ℕ) (spent : Spent) (label : Label) (verb : Verb) where
+    abbrev slot_with : Option Wallet → Slot
+    slot_with wallet =
+        record { which = which; pending = pending; input = k; spent = spent; label = label; verb = verb; wallet = wallet }
 
-  all_append : (xs ys : List Slot) → requirements_of (xs ++ ys) ≡ requirements_of xs ++ requirements_of ys
-  all_append [] ys = refl
-  all_append (x ∷ xs) ys =
-      one_more x (xs ++ ys) (is_needed_for which x) (has hash keys given x) refl refl
-      ∙ ap (λ more. one_requirement (is_needed_for which x) (has hash keys given x) x ++ more) (all_append xs ys)
-      ∙ sym (append_assoc (one_requirement (is_needed_for which x) (has hash keys given x) x) (requirements_of xs) (requirements_of ys))
-      ∙ ap (λ first. first ++ requirements_of ys)
-      (sym (one_more x xs (is_needed_for which x) (has hash keys given x) refl refl))
+    requirement_with : (wallet : Option Wallet)
+        → requirement_of (missing.requirement_of hash keys (slot_with wallet)) ≡ signature_requirement (slot_with wallet)
+    requirement_with None = refl
+    requirement_with (Some w) = refl
 
-  module _ (advert : Advert) where
-    module _ (l : Listed) where
-      abbrev made : Transaction
-      made = transaction hash keys advert l
+    line_with : (wallet : Option Wallet) (needed there : Bool)
+        → flat_map unverified_text (cond needed (unverified_when there (missing.requirement_of hash keys (slot_with wallet)) wallet) [])
+        ≡ cond (needed && (is_some wallet && there)) (unverified_line (slot_with wallet)) []
+    line_with None true there = refl
+    line_with None false there = refl
+    line_with (Some w) true true =
+        append-nil (unverified_text (record { which = which; input = k; deposit = w.deposit; verb = verb }))
+        ∙ unverified_is (record { which = which; input = k; deposit = w.deposit; verb = verb })
+    line_with (Some w) true false = refl
+    line_with (Some w) false there = refl
 
-      abbrev is_own : Bool
-      is_own = same_which l.which which
+  requirement_is : (slot : Slot) → requirement_of (missing.requirement_of hash keys slot) ≡ signature_requirement slot
+  requirement_is slot = requirement_with slot.which slot.pending slot.input slot.spent slot.label slot.verb slot.wallet
 
-      of_input : (k : ℕ) (spent : Spent) (labels : List Label) → requirements_of (input_slots advert l k spent labels)
-          ≡ input_requirements given which is_own made k (input hash keys advert l spent labels)
-      of_input k spent [] = refl
-      of_input k spent (label ∷ labels) =
-          one_by
-          (record { which = l.which; pending = l.pending; input = k; spent = spent; label = label; verb = (signer hash keys advert l.which label).verb })
-          (input_slots advert l k spent labels)
-          ∙ ap (λ more.
-          requirement_if_needed given which is_own made k (input hash keys advert l spent []) (signer hash keys advert l.which label) ++ more)
-          (of_input k spent labels)
+  line_is : (slot : Slot) (needed there : Bool)
+      → flat_map unverified_text (cond needed (unverified_when there (missing.requirement_of hash keys slot) slot.wallet) [])
+      ≡ cond (needed && (is_some slot.wallet && there)) (unverified_line slot) []
+  line_is slot needed there = line_with slot.which slot.pending slot.input slot.spent slot.label slot.verb slot.wallet needed there
 
-      nobody : (k : ℕ) (spends : List Spent)
-          → [] ≡ inputs_requirements given which is_own made k (inputs hash keys advert l spends [])
-      nobody k [] = refl
-      nobody k (spent ∷ spends) = nobody (k + 1) spends
+  module _ (given : List Signed) (which : Which) where
+    -- those of these signatures that are needed and aren't there
+    abbrev lacking : List Slot → List Slot
+    lacking xs = filter (λ slot. not (has hash keys given slot)) xs
 
-      of_inputs : (k : ℕ) (spends : List Spent) (signers : List (List Label)) → requirements_of (slots_from advert l k spends signers)
-          ≡ inputs_requirements given which is_own made k (inputs hash keys advert l spends signers)
-      of_inputs k [] signers = refl
-      of_inputs k (spent ∷ spends) [] = nobody k (spent ∷ spends)
-      of_inputs k (spent ∷ spends) (labels ∷ signers) =
-          all_append (input_slots advert l k spent labels) (slots_from advert l (k + 1) spends signers)
-          ∙ (λ j. of_input k spent labels j ++ of_inputs (k + 1) spends signers j)
+    abbrev requirements_of : List Slot → List Requirement
+    requirements_of xs = map signature_requirement (filter (is_needed_for which) (lacking xs))
 
-      of_listed : requirements_of (listed_slots advert l) ≡ transaction_requirements given which made
-      of_listed = of_inputs 0 l.pending.spends l.signers
+    one_more : (x : Slot) (xs : List Slot) (needed there : Bool) → is_needed_for which x ≡ needed → has hash keys given x ≡ there
+        → requirements_of (x ∷ xs) ≡ cond needed (requirement_unless there (signature_requirement x)) [] ++ requirements_of xs
+    one_more x xs true true n h = ap (λ b. map signature_requirement (filter (is_needed_for which) (cond (not b) (x ∷ lacking xs) (lacking xs)))) h
+    one_more x xs false true n h = ap (λ b. map signature_requirement (filter (is_needed_for which) (cond (not b) (x ∷ lacking xs) (lacking xs)))) h
+    one_more x xs true false n h =
+        ap (λ b. map signature_requirement (filter (is_needed_for which) (cond (not b) (x ∷ lacking xs) (lacking xs)))) h
+        ∙ ap (λ b. map signature_requirement (cond b (x ∷ filter (is_needed_for which) (lacking xs)) (filter (is_needed_for which) (lacking xs)))) n
+    one_more x xs false false n h =
+        ap (λ b. map signature_requirement (filter (is_needed_for which) (cond (not b) (x ∷ lacking xs) (lacking xs)))) h
+        ∙ ap (λ b. map signature_requirement (cond b (x ∷ filter (is_needed_for which) (lacking xs)) (filter (is_needed_for which) (lacking xs)))) n
 
-    of_all : (ls : List Listed)
-        → requirements_of (flat_map (listed_slots advert) ls) ≡ signatures_by given which (map (transaction hash keys advert) ls)
-    of_all [] = refl
-    of_all (l ∷ ls) =
-        all_append (listed_slots advert l) (flat_map (listed_slots advert) ls)
-        ∙ (λ j. of_listed l j ++ of_all ls j)
+    all_missing : (xs : List Slot) → requirements_of xs ≡ signatures_by given which (wanted xs)
+    all_missing [] = refl
+    all_missing (x ∷ xs) =
+        one_more x xs (is_needed_for which x) (has hash keys given x) refl refl
+        ∙ (λ j.
+        cond (needed_is which x j) (requirement_unless (missing.has_is hash keys given x j) (sym (requirement_is x) j)) [] ++ all_missing xs j)
 
-  signatures_are : (s : Instance) → signatures_by given which (transactions hash keys s) ≡ signature_requirements hash keys s given which
-  signatures_are s = sym (of_all s.advert (listed hash keys s))
+    signatures_are : (s : Instance)
+        → signatures_by given which (required (transactions hash keys s)) ≡ signature_requirements hash keys s given which
+    signatures_are s = ap (signatures_by given which) (wanted_is s) ∙ sym (all_missing (slots hash keys s))
+
+    -- ---- witnesses of wallets
+
+    abbrev unverified_in : List Slot → List Slot
+    unverified_in xs = filter (λ slot. is_needed_for which slot && is_unverified hash keys given slot) xs
+
+    texts_append : (us vs : List Unverified) → flat_map unverified_text (us ++ vs) ≡ flat_map unverified_text us ++ flat_map unverified_text vs
+    texts_append [] vs = refl
+    texts_append (u ∷ us) vs =
+        ap (λ more. unverified_text u ++ more) (texts_append us vs)
+        ∙ sym (append_assoc (unverified_text u) (flat_map unverified_text us) (flat_map unverified_text vs))
+
+    line_more : (b : Bool) (x : Slot) (xs : List Slot)
+        → cond b (unverified_line x) [] ++ flat_map unverified_line xs ≡ flat_map unverified_line (cond b (x ∷ xs) xs)
+    line_more true x xs = refl
+    line_more false x xs = refl
+
+    all_unverified : (xs : List Slot)
+        → flat_map unverified_text (unverified_by given which (wanted xs)) ≡ flat_map unverified_line (unverified_in xs)
+    all_unverified [] = refl
+    all_unverified (x ∷ xs) =
+        texts_append (unverified_if_needed given which (missing.requirement_of hash keys x)) (unverified_by given which (wanted xs))
+        ∙ (λ j.
+        flat_map unverified_text
+        (cond (sym (needed_is which x) j)
+        (unverified_when (sym (missing.has_is hash keys given x) j) (missing.requirement_of hash keys x) x.wallet) [])
+        ++ all_unverified xs j)
+        ∙ ap (λ line. line ++ flat_map unverified_line (unverified_in xs)) (line_is x (is_needed_for which x) (has hash keys given x))
+        ∙ line_more (is_needed_for which x && is_unverified hash keys given x) x (unverified_in xs)
+
+    unverified_are : (s : Instance) → flat_map unverified_text (unverified_by given which (required (transactions hash keys s)))
+        ≡ flat_map unverified_line (unverified_for hash keys s given which)
+    unverified_are s =
+        ap (λ ws. flat_map unverified_text (unverified_by given which ws)) (wanted_is s) ∙ all_unverified (slots hash keys s)
 
 -- ---- deposits and secrets
 
@@ -168,25 +205,41 @@ module _ (hash : List ℕ → List ℕ) (keys : Keys) (s : Instance) (given : Li
   ts = transactions hash keys s
 
   outstanding_is : (which : Which)
-      → outstanding_by s.advert ts given strings state tip which ≡ outstanding hash keys s given strings state tip which
+      → outstanding_by s.advert ts (required ts) given strings state tip which ≡ outstanding hash keys s given strings state tip which
   outstanding_is which = λ j.
       height_requirements ts tip which ++ (signatures_are hash keys given which s j ++ parts_are s strings state which j)
 
-  abbrev prospects_of : List Which → List (Which × List Requirement)
-  prospects_of ws = prospects_by s.advert ts given strings state tip ws
+  abbrev prospects_of : List Which → List Chance
+  prospects_of ws = prospects_by s.advert ts (required ts) given strings state tip ws
 
-  prospects_told : (ws : List Which) → flat_map (λ (p : Which × List Requirement). prospect_text (p.0) (p.1)) (prospects_of ws)
-      ≡ flat_map (λ which. prospect_text which (outstanding hash keys s given strings state tip which)) ws
+  prospect_is : (which : Which) (us : List Unverified) (xs : List Slot) (rs : List Requirement)
+      → flat_map unverified_text us ≡ flat_map unverified_line xs → by.prospect_text which us rs ≡ prospect_text which xs rs
+  prospect_is which us xs [] e = ap (λ more. by.verdict_line (codes "can") which ++ more) e
+  prospect_is which us xs (r ∷ rs) e = refl
+
+  chance_is : (which : Which) → chance_text (chance_of s.advert ts (required ts) given strings state tip which)
+      ≡ prospect_text which (unverified_for hash keys s given which) (outstanding hash keys s given strings state tip which)
+  chance_is which =
+      prospect_is which (unverified_by given which (required ts)) (unverified_for hash keys s given which)
+      (outstanding_by s.advert ts (required ts) given strings state tip which) (unverified_are hash keys given which s)
+      ∙ ap (prospect_text which (unverified_for hash keys s given which)) (outstanding_is which)
+
+  prospects_told : (ws : List Which) → flat_map chance_text (prospects_of ws)
+      ≡ flat_map
+      (λ which. prospect_text which (unverified_for hash keys s given which) (outstanding hash keys s given strings state tip which))
+      ws
   prospects_told [] = refl
-  prospects_told (w ∷ ws) = λ j. prospect_text w (outstanding_is w j) ++ prospects_told ws j
+  prospects_told (w ∷ ws) = λ j. chance_is w j ++ prospects_told ws j
 
-  any_waits : (party : List ℕ) (ws : List Which) → list_any (λ (p : Which × List Requirement). waits_for party (p.1)) (prospects_of ws)
+  any_waits : (party : List ℕ) (ws : List Which) → is_awaited_by (prospects_of ws) party
       ≡ list_any (waits_for party) (map (outstanding hash keys s given strings state tip) ws)
   any_waits party [] = refl
   any_waits party (w ∷ ws) = λ j. waits_for party (outstanding_is w j) || any_waits party ws j
 
   future_is : (ws : List Which) → future_text (people s) (prospects_of ws)
-      ≡ flat_map (λ which. prospect_text which (outstanding hash keys s given strings state tip which)) ws
+      ≡ flat_map
+      (λ which. prospect_text which (unverified_for hash keys s given which) (outstanding hash keys s given strings state tip which))
+      ws
       ++ flat_map waits_line (spec.awaited s (map (outstanding hash keys s given strings state tip) ws))
   future_is ws = λ j.
       prospects_told ws j ++ flat_map waits_line (filter (λ party. any_waits party ws j) (people s))

@@ -1,8 +1,8 @@
 -- What may come next and what is missing for it, by what is known of the contract and the transactions.
-use Rattle.std.specs.Prelude.{ℕ, ◌+◌, List, [], ◌∷◌, ◌++◌, filter, map, Bool, true, false, not, ◌||◌, if◌then◌else◌}
-use Rattle.std.specs.Prelude.{Option, is_some}
-use Rattle.std.specs.List.{find, list_any, flat_map}
-use Rattle.std.specs.Option.{option_map, option_map_or}
+use Rattle.std.specs.Prelude.{ℕ, List, [], ◌∷◌, ◌++◌, filter, map, Bool, true, false, not, ◌||◌, if◌then◌else◌}
+use Rattle.std.specs.Prelude.{Option, Some, None, is_some}
+use Rattle.std.specs.List.{list_any, flat_map}
+use Rattle.std.specs.Option.{option_map_or}
 use Rattle.spec_data.specs.Lists.{look_up}
 use Rattle.spec_terms.specs.Advert.{Advert}
 use Rattle.spec_terms.specs.Parties.{participants}
@@ -20,12 +20,11 @@ use Rattle.spec_deal.specs.declared.entry.Shown.{Shown}
 use Rattle.spec_deal.specs.declared.finish.Verb.{Verb}
 use Rattle.spec_deal.specs.declared.signed.Signed.{Signed}
 use Rattle.spec_deal.specs.declared.transaction.Signer.{Signer}
-use Rattle.spec_deal.specs.declared.transaction.Input.{Input}
 use Rattle.spec_deal.specs.declared.transaction.Transaction.{Transaction}
-use Rattle.spec_deal.specs.Finished.{bytes_or_none}
+use Rattle.spec_deal.specs.declared.transaction.Wallet.{Wallet}
+use Rattle.spec_deal.specs.Finished.{bytes_or_none, label_party}
 use Rattle.spec_deal.specs.SecretFile.{string_for}
 use Rattle.spec_deal.specs.Slots.{is_endorsement}
-use Rattle.spec_deal.specs.Transactions.{Spot, is_at}
 use Rattle.spec_chain.specs.declared.output.Held.TheVariants.{Deposit, Position, Payout}
 use Rattle.spec_chain.specs.declared.output.Output.{Output}
 use Rattle.spec_chain.specs.declared.requirement.Requirement.{Requirement}
@@ -33,11 +32,14 @@ use Rattle.spec_chain.specs.declared.requirement.Requirement.TheVariants as requ
 use Rattle.spec_chain.specs.Chain.{Course}
 use Rattle.spec_chain.specs.Following.{State}
 use Rattle.spec_chain.specs.Outputs.{is_deposit}
-use Rattle.spec_chain.specs.StateText.{string_line, height_line, prospect_text, waits_line, past_text}
+use Rattle.spec_chain.specs.StateText.{string_line, height_line, waits_line, past_text}
 use Rattle.spec_chain.specs.Outstanding.{branches_from, known, height_requirements, puts_by, gone_requirements, is_false, waits_for}
 use Rattle.deal_finish.specs.Filled.{branch_of}
-use Rattle.deal_missing.specs.Required.{Required}
+use Rattle.deal_missing.specs.Required.{Required, signer_required, required, is_there}
+use Rattle.deal_state.specs.declared.signatures.Unverified.{Unverified}
+use Rattle.deal_state.specs.declared.signatures.Wanted.{Wanted}
 use Rattle.deal_state.specs.declared.text.Prospect.{Prospect}
+use Rattle.deal_state.specs.Lines.{prospect_text}
 
 -- ---- what may come
 
@@ -70,38 +72,59 @@ abbrev pub is_needed_by : Which → Bool → Verb → Bool
 is_needed_by names.Init is_own verb = is_own || is_endorsement verb
 is_needed_by (names.At path) is_own verb = is_own
 
+-- as the code has it
+abbrev pub wanted_in : Wanted → Required
+wanted_in w = signer_required w.transaction.now w.number w.input.now w.signer.now
+
+-- whether the transaction of this name needs it
+abbrev pub is_wanted : Which → Required → Bool
+is_wanted which w = is_needed_by which (same_which w.which which) w.signer.verb
+
+-- by the key of a label, or by a wallet
+abbrev pub requirement_by : Which → ℕ → Signer → Option Wallet → Requirement
+requirement_by which input s None = requirements.Signature which input s.label s.verb
+requirement_by which input s (Some wallet) = requirements.Wallet which input wallet.deposit (label_party s.label) s.verb
+
 abbrev pub requirement_of : Required → Requirement
-requirement_of w = requirements.Signature w.which w.input w.signer.label w.signer.verb
+requirement_of w = requirement_by w.which w.input w.signer w.wallet
 
 abbrev pub requirement_unless : Bool → Requirement → List Requirement
 requirement_unless true r = []
 requirement_unless false r = r ∷ []
 
--- whether the signature is there
-abbrev pub is_signed : List Signed → Spot → Bool
-is_signed given spot = is_some (option_map (λ (g : Signed). g.signature) (find (is_at spot) given))
+abbrev pub requirement_if_missing : List Signed → Required → List Requirement
+requirement_if_missing given w = requirement_unless (is_there given w) (requirement_of w)
 
--- of input k of a transaction, by this signer
-abbrev pub requirement_if_missing : List Signed → Transaction → ℕ → Signer → List Requirement
-requirement_if_missing given t k s =
-    requirement_unless (is_signed given (record { tx = t.bytes; input = k; key = s.key })) (requirements.Signature t.which k s.label s.verb)
+abbrev pub requirement_if_needed : List Signed → Which → Required → List Requirement
+requirement_if_needed given which w = if is_wanted which w then requirement_if_missing given w else []
 
-abbrev pub requirement_if_needed : List Signed → Which → Bool → Transaction → ℕ → Input → Signer → List Requirement
-requirement_if_needed given which is_own t k i s = if is_needed_by which is_own s.verb then requirement_if_missing given t k s else []
+-- those that the transaction of this name needs and that aren't there
+abbrev pub signatures_by : List Signed → Which → List Required → List Requirement
+signatures_by given which ws = flat_map (requirement_if_needed given which) ws
 
-abbrev pub input_requirements : List Signed → Which → Bool → Transaction → ℕ → Input → List Requirement
-input_requirements given which is_own t k i = flat_map (requirement_if_needed given which is_own t k i) i.signers
+-- ---- witnesses of wallets
 
--- of the inputs from number k on
-abbrev pub inputs_requirements : List Signed → Which → Bool → Transaction → ℕ → List Input → List Requirement
-inputs_requirements given which is_own t k [] = []
-inputs_requirements given which is_own t k (i ∷ is) = input_requirements given which is_own t k i ++ inputs_requirements given which is_own t (k + 1) is
+abbrev pub unverified_if : Bool → Unverified → List Unverified
+unverified_if true u = u ∷ []
+unverified_if false u = []
 
-abbrev pub transaction_requirements : List Signed → Which → Transaction → List Requirement
-transaction_requirements given which t = inputs_requirements given which (same_which t.which which) t 0 t.inputs
+abbrev pub unverified_of : Required → Wallet → Unverified
+unverified_of w wallet = record { which = w.which; input = w.input; deposit = wallet.deposit; verb = w.signer.verb }
 
-abbrev pub signatures_by : List Signed → Which → List Transaction → List Requirement
-signatures_by given which ts = flat_map (transaction_requirements given which) ts
+-- by whether it is there, and the wallet
+abbrev pub unverified_when : Bool → Required → Option Wallet → List Unverified
+unverified_when there w None = []
+unverified_when there w (Some wallet) = unverified_if there (unverified_of w wallet)
+
+abbrev pub unverified_if_there : List Signed → Required → List Unverified
+unverified_if_there given w = unverified_when (is_there given w) w w.wallet
+
+abbrev pub unverified_if_needed : List Signed → Which → Required → List Unverified
+unverified_if_needed given which w = if is_wanted which w then unverified_if_there given w else []
+
+-- those that the transaction of this name needs and that are there
+abbrev pub unverified_by : List Signed → Which → List Required → List Unverified
+unverified_by given which ws = flat_map (unverified_if_needed given which) ws
 
 -- ---- deposits and secrets
 
@@ -142,30 +165,51 @@ parts_by advert strings live which =
 
 -- ---- all that is missing
 
-abbrev pub outstanding_by : Advert → List Transaction → List Signed → List Shown → State → ℕ → Which → List Requirement
-outstanding_by advert ts given strings state tip which =
-    height_requirements ts tip which ++ (signatures_by given which ts ++ parts_by advert strings state.live which)
+abbrev pub outstanding_by : Advert → List Transaction → List Required → List Signed → List Shown → State → ℕ → Which → List Requirement
+outstanding_by advert ts ws given strings state tip which =
+    height_requirements ts tip which ++ (signatures_by given which ws ++ parts_by advert strings state.live which)
 
--- what is missing for each of these transactions
-abbrev pub prospects_by : Advert → List Transaction → List Signed → List Shown → State → ℕ → List Which → List (Which × List Requirement)
-prospects_by advert ts given strings state tip asked = map (λ which. (which, outstanding_by advert ts given strings state tip which)) asked
+-- a transaction that may come, the witnesses that it counts on, and what is missing for it
+pub record Chance : Type 0 where
+  pub which : Which
+  pub unverified : List Unverified
+  pub requirements : List Requirement
+
+abbrev pub chance_of : Advert → List Transaction → List Required → List Signed → List Shown → State → ℕ → Which → Chance
+chance_of advert ts ws given strings state tip which = record {
+  which = which;
+  unverified = unverified_by given which ws;
+  requirements = outstanding_by advert ts ws given strings state tip which;
+}
+
+-- each of these transactions
+abbrev pub prospects_by : Advert → List Transaction → List Required → List Signed → List Shown → State → ℕ → List Which → List Chance
+prospects_by advert ts ws given strings state tip asked = map (chance_of advert ts ws given strings state tip) asked
 
 -- ---- the text
 
-abbrev pub prospect_in : Prospect → Which × List Requirement
-prospect_in p = (p.which, p.requirements.items)
+-- as the code has it
+abbrev pub prospect_in : Prospect → Chance
+prospect_in p = record { which = p.which; unverified = p.unverified.items; requirements = p.requirements.items }
+
+abbrev pub chance_text : Chance → List ℕ
+chance_text c = prospect_text c.which c.unverified c.requirements
+
+-- whether one of these waits for the party
+abbrev pub is_awaited_by : List Chance → List ℕ → Bool
+is_awaited_by cs party = list_any (λ (c : Chance). waits_for party c.requirements) cs
 
 -- the line of a party, if it is awaited
 abbrev pub waits_if : Bool → List ℕ → List ℕ
 waits_if true party = waits_line party
 waits_if false party = []
 
-abbrev pub future_text : List (List ℕ) → List (Which × List Requirement) → List ℕ
+abbrev pub future_text : List (List ℕ) → List Chance → List ℕ
 future_text people prospects =
-    flat_map (λ p. prospect_text (p.0) (p.1)) prospects
-    ++ flat_map waits_line (filter (λ party. list_any (λ p. waits_for party (p.1)) prospects) people)
+    flat_map chance_text prospects
+    ++ flat_map waits_line (filter (is_awaited_by prospects) people)
 
-abbrev pub state_by : Advert → List (List ℕ) → Course → ℕ → List Shown → List (Which × List Requirement) → List ℕ
+abbrev pub state_by : Advert → List (List ℕ) → Course → ℕ → List Shown → List Chance → List ℕ
 state_by advert people course tip strings prospects =
     past_text course
     ++ (flat_map (λ name. string_line name (string_for strings name)) (names_of (secrets advert.pre))
@@ -175,4 +219,4 @@ state_by advert people course tip strings prospects =
 abbrev pub text_by : Advert → List Transaction → Course → ℕ → List Signed → List Shown → List ℕ
 text_by advert ts course tip given strings =
     state_by advert (participants advert) course tip (known course.state strings)
-    (prospects_by advert ts given (known course.state strings) course.state tip (asked_by advert course.state))
+    (prospects_by advert ts (required ts) given (known course.state strings) course.state tip (asked_by advert course.state))

@@ -4,6 +4,7 @@
 mod asked;
 mod lines;
 mod outstanding;
+mod signatures;
 mod text;
 
 pub use text::state_text;

@@ -10,6 +10,7 @@ ghost use Rattle.spec_chain.specs.StateText as spec;
 ghost use Rattle.deal_follow.specs.Seen.{step_of, happened_in};
 ghost use Rattle.deal_state.specs.Lines as by;
 
+use crate::signatures::Unverified;
 use bm_keys::{put_label, put_path};
 use bm_runfile::{put_branch, put_output, put_outputs, put_party_name, put_word_name};
 use bm_text::{put, put_decimal, put_hex};
@@ -343,6 +344,34 @@ fn put_signature(
     put_signer(alloc, out, label, verb)
 }
 
+// `W:x VERB`
+#[tactic(auto, using(std::proofs::Common::append_assoc))]
+fn put_wallet_signer(out: &mut Vec<u8>, deposit: &Name, verb: Verb) -> Result<(), OutOfMemory>
+    ensures { OnOk result (out.new.items ≡ out.old.items ++ by.wallet_signer_text deposit.now verb) }
+{
+    put(out, b"W:")?;
+    put(out, deposit.bytes())?;
+    put(out, b" ")?;
+    put_verb(out, verb)
+}
+
+// `needs signature WHICH k W:x VERB`
+#[tactic(auto, using(std::proofs::Common::append_assoc))]
+fn put_witness(
+    alloc: Global,
+    out: &mut Vec<u8>,
+    which: &Which,
+    input: u32,
+    deposit: &Name,
+    verb: Verb,
+) -> Result<(), OutOfMemory>
+    ensures { OnOk result (out.new.items ≡ out.old.items ++ by.witness_text which.now input deposit.now verb) }
+{
+    put(out, b"needs signature ")?;
+    put_input(alloc, out, which, input)?;
+    put_wallet_signer(out, deposit, verb)
+}
+
 // `needs secret a of A`
 #[tactic(auto, using(std::proofs::Common::append_assoc))]
 fn put_secret(out: &mut Vec<u8>, name: &Name, party: &Name) -> Result<(), OutOfMemory>
@@ -382,6 +411,9 @@ fn put_requirement(
         Requirement::Height(height) => put_height_words(alloc, out, *height),
         Requirement::Signature(which, input, label, verb) => {
             put_signature(alloc, out, which, *input, label, *verb)
+        }
+        Requirement::Wallet(which, input, deposit, _, verb) => {
+            put_witness(alloc, out, which, *input, deposit, *verb)
         }
         Requirement::Deposit(name) => put_deposit_words(out, name),
         Requirement::Secret(name, party) => put_secret(out, name, party),
@@ -443,18 +475,49 @@ fn put_verdict(
     put(out, b"\n")
 }
 
-/// A transaction, and below it what is missing for it.
+// `unverified WHICH k W:x VERB`
+#[tactic(auto, using(std::proofs::Common::append_assoc))]
+fn put_unverified(
+    alloc: Global,
+    out: &mut Vec<u8>,
+    unverified: &Unverified,
+) -> Result<(), OutOfMemory>
+    ensures { OnOk result (out.new.items ≡ out.old.items ++ by.unverified_text unverified.now) }
+{
+    put(out, b"unverified ")?;
+    put_input(alloc, out, &unverified.which, unverified.input)?;
+    put_wallet_signer(out, &unverified.deposit, unverified.verb)?;
+    put(out, b"\n")
+}
+
+#[tactic(auto, using(std::proofs::Common::append_assoc))]
+fn put_all_unverified(
+    alloc: Global,
+    out: &mut Vec<u8>,
+    all: &[Unverified],
+) -> Result<(), OutOfMemory>
+    ensures { OnOk result (out.new.items ≡ out.old.items ++ flat_map by.unverified_text all.now) }
+{
+    for unverified in all {
+        put_unverified(alloc, out, unverified)?;
+    }
+    Ok(())
+}
+
+/// A transaction, and below it what is missing for it; below one that can come, the wallets' witnesses that it counts on.
 #[tactic(auto, using(std::proofs::Common::append_assoc))]
 pub(crate) fn put_prospect(
     alloc: Global,
     out: &mut Vec<u8>,
     which: &Which,
+    unverified: &[Unverified],
     requirements: &[Requirement],
 ) -> Result<(), OutOfMemory>
-    ensures { OnOk result (out.new.items ≡ out.old.items ++ spec.prospect_text which.now requirements.now) }
+    ensures { OnOk result (out.new.items ≡ out.old.items ++ by.prospect_text which.now unverified.now requirements.now) }
 {
     if requirements.is_empty() {
-        return put_verdict(alloc, out, b"can", which);
+        put_verdict(alloc, out, b"can", which)?;
+        return put_all_unverified(alloc, out, unverified);
     }
     put_verdict(alloc, out, b"cannot", which)?;
     put_requirement_lines(alloc, out, requirements)

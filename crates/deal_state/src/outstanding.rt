@@ -8,8 +8,6 @@ ghost use Rattle.spec_terms.specs.Core.{core as core_of, test_of};
 ghost use Rattle.spec_terms.specs.Faults.{IsWellFormed};
 ghost use Rattle.spec_terms.specs.Precondition.{persistent, secrets, names_of};
 ghost use Rattle.spec_run.specs.Firing.{revealed_by as secrets_of};
-ghost use Rattle.spec_tool.specs.Keyed.Listed.{same_which as same};
-ghost use Rattle.spec_deal.specs.Slots.{is_endorsement as endorses};
 ghost use Rattle.spec_chain.specs.Outputs.{is_deposit as names_deposit};
 ghost use Rattle.spec_chain.specs.Outstanding as spec;
 ghost use Rattle.bm_syntax.specs.View.{guarded};
@@ -17,18 +15,19 @@ ghost use Rattle.deal_finish.specs.Filled.{branch_of as taken_by};
 ghost use Rattle.deal_state.specs.Prospects as by;
 ghost use Rattle.deal_follow.specs.Seen.{state_in};
 
+use crate::signatures::{Wanted, put_signatures};
 use bm_syntax::{Guarded, puts, reveals};
 use bm_wellformed::Checked;
 use deal_finish::{branch_of, do_fit};
-use deal_follow::{Standing, same_which, transaction_named};
+use deal_follow::{Standing, transaction_named};
 use deal_secrets::Strings;
 use deal_signatures::Given;
 use spec_chain::{Held, Output, Requirement};
 use spec_data::{Name, OutOfMemory};
-use spec_deal::{Input, Signer, Transaction, Verb};
+use spec_deal::Transaction;
 use spec_terms::Pre;
 use spec_tool::Which;
-use std::alloc::{AllocError, Global};
+use std::alloc::Global;
 
 // ---- the height
 
@@ -54,137 +53,6 @@ fn put_height(
     let lock = lock_of(transaction_named(transactions, which));
     if tip < lock {
         requirements.push(Requirement::Height(lock))?;
-    }
-    Ok(())
-}
-
-// ---- signatures
-
-fn is_endorsement(verb: Verb) -> bool
-    ensures { result ≡ endorses verb }
-{
-    match verb {
-        Verb::Endorse => true,
-        Verb::Authorise => false,
-        Verb::Init => false,
-    }
-}
-
-// Whether a transaction needs a signature, by whether it is of the transaction itself, and by what it is for.
-fn is_needed(which: &Which, is_own: bool, verb: Verb) -> bool
-    ensures { result ≡ by.is_needed_by which.now is_own verb }
-{
-    match which {
-        Which::Init => is_own || is_endorsement(verb),
-        Which::At(_) => is_own,
-    }
-}
-
-// The signature of an input by a key, if it isn't there.
-fn put_missing(
-    alloc: Global,
-    requirements: &mut Vec<Requirement>,
-    given: &Given,
-    transaction: &Transaction,
-    number: u32,
-    signer: &Signer,
-) -> Result<(), OutOfMemory>
-    ensures { OnOk result (requirements.new.items ≡ requirements.old.items ++ by.requirement_if_missing given.now transaction.now number signer.now) }
-{
-    let bytes = transaction.bytes.as_slice();
-    if given
-        .signature(alloc, bytes, number, &signer.key)?
-        .is_none()
-    {
-        requirements.push(Requirement::Signature(
-            transaction.which.copy(alloc)?,
-            number,
-            signer.label.copy(alloc)?,
-            signer.verb,
-        ))?;
-    }
-    Ok(())
-}
-
-// Those of an input that are needed.
-fn put_input(
-    alloc: Global,
-    requirements: &mut Vec<Requirement>,
-    given: &Given,
-    which: &Which,
-    is_own: bool,
-    transaction: &Transaction,
-    number: u32,
-    input: &Input,
-) -> Result<(), OutOfMemory>
-    ensures { OnOk result (requirements.new.items ≡ requirements.old.items ++ by.input_requirements given.now which.now is_own transaction.now number input.now) }
-{
-    for signer in input.signers.as_slice() {
-        if is_needed(which, is_own, signer.verb) {
-            put_missing(alloc, requirements, given, transaction, number, signer)?;
-        }
-    }
-    Ok(())
-}
-
-// A number of 32 bits; a greater one is taken for lack of memory.
-fn narrow(number: usize) -> Result<u32, OutOfMemory>
-    ensures { IfOk result (λ n. n ≡ number) }
-{
-    if number > u32::MAX as usize {
-        return Err(AllocError);
-    }
-    Ok(number as u32)
-}
-
-// Those of a transaction that are needed.
-fn put_transaction(
-    alloc: Global,
-    requirements: &mut Vec<Requirement>,
-    given: &Given,
-    which: &Which,
-    is_own: bool,
-    transaction: &Transaction,
-) -> Result<(), OutOfMemory>
-    ensures { OnOk result (requirements.new.items ≡ requirements.old.items
-        ++ by.inputs_requirements given.now which.now is_own transaction.now 0 transaction.now.inputs) }
-{
-    for (number, input) in transaction.inputs.as_slice().iter().enumerate() {
-        let number = narrow(number)?;
-        put_input(
-            alloc,
-            requirements,
-            given,
-            which,
-            is_own,
-            transaction,
-            number,
-            input,
-        )?;
-    }
-    Ok(())
-}
-
-// Whether the transaction has this name.
-fn is_named(transaction: &Transaction, which: &Which) -> bool
-    ensures { result ≡ same transaction.now.which which.now }
-{
-    same_which(&transaction.which, which)
-}
-
-// Those of all transactions that are needed.
-fn put_signatures(
-    alloc: Global,
-    requirements: &mut Vec<Requirement>,
-    transactions: &[Transaction],
-    given: &Given,
-    which: &Which,
-) -> Result<(), OutOfMemory>
-    ensures { OnOk result (requirements.new.items ≡ requirements.old.items ++ by.signatures_by given.now which.now transactions.now) }
-{
-    for transaction in transactions {
-        let is_own = is_named(transaction, which);
-        put_transaction(alloc, requirements, given, which, is_own, transaction)?;
     }
     Ok(())
 }
@@ -462,11 +330,13 @@ fn put_parts(
     put_checked(requirements, checked, &gone, &hidden, is_false)
 }
 
-/// All that is missing for the transaction of a name under this tip, where these signatures are given and these strings known, in order.
+/// All that is missing for the transaction of a name under this tip, where all these signatures are needed, these are given and these
+/// strings known, in order.
 pub(crate) fn outstanding(
     alloc: Global,
     checked: &Checked,
     transactions: &[Transaction],
+    wanted: &[Wanted],
     given: &Given,
     strings: &Strings,
     standing: &Standing,
@@ -474,11 +344,11 @@ pub(crate) fn outstanding(
     which: &Which,
 ) -> Result<Vec<Requirement>, OutOfMemory>
     ensures { IfOk result (λ v. v.items
-        ≡ by.outstanding_by checked.now transactions.now given.now strings.now (state_in standing.now) tip which.now) }
+        ≡ by.outstanding_by checked.now transactions.now (map by.wanted_in wanted.now) given.now strings.now (state_in standing.now) tip which.now) }
 {
     let mut requirements = Vec::new(alloc);
     put_height(&mut requirements, transactions, tip, which)?;
-    put_signatures(alloc, &mut requirements, transactions, given, which)?;
+    put_signatures(alloc, &mut requirements, given, which, wanted)?;
     put_parts(
         alloc,
         &mut requirements,

@@ -6,7 +6,6 @@ ghost use Rattle.spec_terms.specs.Precondition.{secrets, names_of};
 ghost use Rattle.spec_compiler.specs.Keyed.Instance.{Instance};
 ghost use Rattle.spec_compiler.specs.Keyed.Keys.{Keys};
 ghost use Rattle.spec_terms.specs.Parties.{participants};
-ghost use Rattle.spec_deal.specs.Finished.{label_party};
 ghost use Rattle.spec_deal.specs.SecretFile.{has_length, string_for};
 ghost use Rattle.spec_deal.specs.Transactions.{transactions as transactions_of};
 ghost use Rattle.spec_chain.specs.StateText as spec;
@@ -19,11 +18,11 @@ use crate::lines::{
     put_event, put_height, put_live, put_paid, put_prospect, put_string, put_waits,
 };
 use crate::outstanding::outstanding;
+use crate::signatures::{Unverified, Wanted, all_unverified, all_wanted, party_of};
 use bm_wellformed::Checked;
 use deal_follow::{Course, Event, Standing};
 use deal_secrets::{Strings, known};
 use deal_signatures::Given;
-use spec_bitcoin::Label;
 use spec_chain::{Output, Requirement};
 use spec_data::{Name, OutOfMemory};
 use spec_deal::Transaction;
@@ -89,18 +88,55 @@ fn put_secrets(
 
 // ---- what may come
 
-/// A transaction that may come next, and what is missing for it.
+/// A transaction that may come next, the wallets' witnesses that it counts on, and what is missing for it.
 #[derive(Drop)]
 pub(crate) struct Prospect {
     pub(crate) which: Which,
+    pub(crate) unverified: Vec<Unverified>,
     pub(crate) requirements: Vec<Requirement>,
 }
 
-// What is missing for each of these transactions.
+// What is missing for a transaction, and what it counts on.
+fn prospect_of(
+    alloc: Global,
+    checked: &Checked,
+    transactions: &[Transaction],
+    wanted: &[Wanted],
+    given: &Given,
+    strings: &Strings,
+    standing: &Standing,
+    tip: u32,
+    which: &Which,
+) -> Result<Prospect, OutOfMemory>
+    ensures { IfOk result (λ p. by.prospect_in p ≡ by.chance_of checked.now transactions.now (map by.wanted_in wanted.now) given.now
+        strings.now (state_in standing.now) tip which.now) }
+{
+    let requirements = outstanding(
+        alloc,
+        checked,
+        transactions,
+        wanted,
+        given,
+        strings,
+        standing,
+        tip,
+        which,
+    )?;
+    let unverified = all_unverified(alloc, given, which, wanted)?;
+    let which = which.copy(alloc)?;
+    Ok(Prospect {
+        which,
+        unverified,
+        requirements,
+    })
+}
+
+// Each of these transactions.
 fn prospects(
     alloc: Global,
     checked: &Checked,
     transactions: &[Transaction],
+    wanted: &[Wanted],
     given: &Given,
     strings: &Strings,
     standing: &Standing,
@@ -108,25 +144,22 @@ fn prospects(
     asked: &[Which],
 ) -> Result<Vec<Prospect>, OutOfMemory>
     ensures { IfOk result (λ v. map by.prospect_in v.items
-        ≡ by.prospects_by checked.now transactions.now given.now strings.now (state_in standing.now) tip asked.now) }
+        ≡ by.prospects_by checked.now transactions.now (map by.wanted_in wanted.now) given.now strings.now (state_in standing.now) tip asked.now) }
 {
     let mut all = Vec::new(alloc);
     for which in asked {
-        let requirements = outstanding(
+        let prospect = prospect_of(
             alloc,
             checked,
             transactions,
+            wanted,
             given,
             strings,
             standing,
             tip,
             which,
         )?;
-        let which = which.copy(alloc)?;
-        all.push(Prospect {
-            which,
-            requirements,
-        })?;
+        all.push(prospect)?;
     }
     Ok(all)
 }
@@ -137,25 +170,21 @@ fn put_prospects(
     prospects: &[Prospect],
 ) -> Result<(), OutOfMemory>
     ensures { OnOk result (out.new.items
-        ≡ out.old.items ++ flat_map (λ p. spec.prospect_text (p.0) (p.1)) (map by.prospect_in prospects.now)) }
+        ≡ out.old.items ++ flat_map by.chance_text (map by.prospect_in prospects.now)) }
 {
     for prospect in prospects {
-        put_prospect(alloc, out, &prospect.which, &prospect.requirements)?;
+        put_prospect(
+            alloc,
+            out,
+            &prospect.which,
+            &prospect.unverified,
+            &prospect.requirements,
+        )?;
     }
     Ok(())
 }
 
 // ---- on whom it waits
-
-// Whose key a label names.
-fn party_of(label: &Label) -> &Name
-    ensures { result.now ≡ label_party label.now }
-{
-    match label {
-        Label::Deposit { party } => party,
-        Label::Branch { party, .. } => party,
-    }
-}
 
 fn is_never(requirement: &Requirement) -> bool
     ensures { result ≡ required.is_never requirement.now }
@@ -163,6 +192,7 @@ fn is_never(requirement: &Requirement) -> bool
     match requirement {
         Requirement::Height(_) => false,
         Requirement::Signature(_, _, _, _) => false,
+        Requirement::Wallet(_, _, _, _, _) => false,
         Requirement::Deposit(_) => false,
         Requirement::Secret(_, _) => false,
         Requirement::DepositGone => true,
@@ -177,6 +207,7 @@ fn is_of(party: &Name, requirement: &Requirement) -> bool
     match requirement {
         Requirement::Height(_) => false,
         Requirement::Signature(_, _, label, _) => *party_of(label) == *party,
+        Requirement::Wallet(_, _, _, owner, _) => *owner == *party,
         Requirement::Deposit(_) => false,
         Requirement::Secret(_, holder) => *holder == *party,
         Requirement::DepositGone => false,
@@ -220,7 +251,7 @@ fn waits_for(party: &Name, requirements: &[Requirement]) -> bool
 
 // Whether one of these transactions waits for the party.
 fn is_awaited(party: &Name, prospects: &[Prospect]) -> bool
-    ensures { result ≡ list_any (λ p. required.waits_for party.now (p.1)) (map by.prospect_in prospects.now) }
+    ensures { result ≡ by.is_awaited_by (map by.prospect_in prospects.now) party.now }
 {
     for prospect in prospects {
         if waits_for(party, &prospect.requirements) {
@@ -233,7 +264,7 @@ fn is_awaited(party: &Name, prospects: &[Prospect]) -> bool
 // A line, if one of these transactions waits for the party.
 fn put_awaited(out: &mut Vec<u8>, party: &Name, prospects: &[Prospect]) -> Result<(), OutOfMemory>
     ensures { OnOk result (out.new.items ≡ out.old.items
-        ++ by.waits_if (list_any (λ p. required.waits_for party.now (p.1)) (map by.prospect_in prospects.now)) party.now) }
+        ++ by.waits_if (by.is_awaited_by (map by.prospect_in prospects.now) party.now) party.now) }
 {
     if is_awaited(party, prospects) {
         return put_waits(out, party);
@@ -248,7 +279,7 @@ fn put_all_waits(
 ) -> Result<(), OutOfMemory>
     ensures { OnOk result (out.new.items ≡ out.old.items
         ++ flat_map spec.waits_line
-        (filter (λ party. list_any (λ p. required.waits_for party (p.1)) (map by.prospect_in prospects.now)) parties.now)) }
+        (filter (by.is_awaited_by (map by.prospect_in prospects.now)) parties.now)) }
 {
     for party in parties {
         put_awaited(out, party, prospects)?;
@@ -309,10 +340,12 @@ fn text_by(
     let standing = &course.standing;
     let all = known(alloc, &standing.shown, strings)?;
     let asked = asked(alloc, checked, standing)?;
+    let wanted = all_wanted(alloc, transactions)?;
     let prospects = prospects(
         alloc,
         checked,
         transactions,
+        &wanted,
         given,
         &all,
         standing,

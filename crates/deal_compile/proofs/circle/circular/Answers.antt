@@ -1,6 +1,10 @@
-use Rattle.std.proofs.Common.{◌∙◌}
-use Rattle.deal_compile.proofs.Own.{circle_found}
+use Rattle.std.proofs.Common.{◌≡◌, IfOk, subst}
+use Rattle.deal_compile.proofs.Own.{circle_whole}
 use Rattle.deal_compile.proofs.circle.circular.Goals as goal
 
 pub returns : goal.returns
-returns c hash keys s is made = c.first_made.ensures ∙ circle_found hash keys s c.args.bound.now c.args.transactions.now is made
+returns g c made placed =
+    let hash = g.H.Hash32.digest_of c.args.hasher.now in
+    let compiled = c.args.compiled.now in
+    subst (λ name. IfOk c.first_circle.result (λ found. found ≡ name))
+    (circle_whole hash c.args.checked.now c.args.deal.now compiled.transactions compiled.scripts made placed) c.first_circle.ensures

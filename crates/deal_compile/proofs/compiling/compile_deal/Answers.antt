@@ -17,6 +17,6 @@ returns-clause-signable g c =
     let deal = c.args.deal.now in
     let s = deal_instance c.args.checked.now deal in
     let same = c.hasher.ensures ∙ c.in_ok-made.ensures.trail.0 in
-    let is = c.in_ok-compiled.ensures.transactions deal (c.in_ok-keys.ensures ∙ c.as_slice.ensures)
+    let is = c.in_ok-compiled.ensures.transactions deal c.in_ok-keys.ensures
     (c.in_ok-made.ensures.details ∙ ap (λ h. details (digest h) (deal_keys deal) s) (sym same)) in
     subst (λ ts. list_all is_signable ts ≡ true) (sym is) (all_signable (digest c.hasher.result.now) (deal_keys deal) s c.is_well_formed.ensures)

@@ -9,7 +9,7 @@ use Rattle.deal_compile.proofs.depositing.hash_scripts.Goals as goal
 pub loop-party-preserved : goal.loop-party-preserved
 loop-party-preserved g c = record {
   hasher = c.in_ok-hash_script.ensures.0 ∙ c.loop-party.invariant.hasher;
-  trail = hashed_each (λ party. deposit_script (key_at c.args.keys.now (Deposit party))) g.H.Hash32.digest_of c.args.trail.now.hasher _ _ _ _ _ _ _
+  trail = hashed_each (λ party. deposit_script (key_at c.args.keys.now.keys (Deposit party))) g.H.Hash32.digest_of c.args.trail.now.hasher _ _ _ _ _ _ _
       c.loop-party.invariant.hasher c.loop-party-test.true c.party-item.is c.loop-party.invariant.trail c.in_ok-hash_script.ensures.1;
 }
 
@@ -19,6 +19,6 @@ returns-in_err-hash_script g c =
     rw (p.1, p.2) (
       c.in_err-hash_script.ensures.0 ∙ c.loop-party.invariant.hasher,
       tt,
-      stops_each (λ party. deposit_script (key_at c.args.keys.now (Deposit party))) g.H.Hash32.digest_of c.args.trail.now.hasher _ _ _ _ _ _ _ _
+      stops_each (λ party. deposit_script (key_at c.args.keys.now.keys (Deposit party))) g.H.Hash32.digest_of c.args.trail.now.hasher _ _ _ _ _ _ _ _
           c.loop-party.invariant.hasher c.loop-party-test.true c.party-item.is c.loop-party.invariant.trail c.in_err-hash_script.ensures.2,
     )

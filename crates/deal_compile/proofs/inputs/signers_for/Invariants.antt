@@ -8,4 +8,4 @@ use Rattle.deal_compile.proofs.inputs.signers_for.Given as goal
 abbrev pub invariant-loop-label : goal.invariant-loop-label
 invariant-loop-label l =
     let b = option_map (λ b. guarded b.now) l.branch in
-    l.signers ++ map (signer_by l.keys l.which b) (drop l.label-index l.labels) ≡ map (signer_by l.keys l.which b) l.labels
+    l.signers ++ map (signer_by l.keys l.which b l.wallet) (drop l.label-index l.labels) ≡ map (signer_by l.keys l.which b l.wallet) l.labels

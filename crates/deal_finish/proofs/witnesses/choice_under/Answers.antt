@@ -1,4 +1,3 @@
-use Rattle.bm_syntax.specs.View.{contract}
 use Rattle.deal_finish.proofs.FewChoices.{few_there}
 use Rattle.deal_finish.proofs.witnesses.choice_under.Goals as goal
 

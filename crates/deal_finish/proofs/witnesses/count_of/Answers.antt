@@ -1,4 +1,4 @@
-use Rattle.std.proofs.Common.{◌≡◌, length, sym, ap, ◌∙◌}
+use Rattle.std.proofs.Common.{length, sym, ap, ◌∙◌}
 use Rattle.deal_finish.proofs.Choosing.{choice_count}
 use Rattle.deal_finish.proofs.witnesses.count_of.Goals as goal
 

@@ -11,7 +11,7 @@ abbrev pub invariant-loop-entry : goal.invariant-loop-entry
 invariant-loop-entry g l =
     let hash = g.H.Hash32.digest_of l.hasher in
     record {
-      placed : list_all (λ d. is_some (look_up (d.0) l.bound)) (deposits (drop l.entry-index l.pre)) ≡ true;
-      told : l.out.items ++ flat_map (deposit_text hash l.keys l.bound) (deposits (drop l.entry-index l.pre))
-          ≡ l.initial.out.items ++ flat_map (deposit_text hash l.keys l.bound) (deposits l.pre);
+      placed : list_all (λ d. is_some (look_up (d.0) l.deal.deposits)) (deposits (drop l.entry-index l.pre)) ≡ true;
+      told : l.out.items ++ flat_map (deposit_text hash l.deal) (deposits (drop l.entry-index l.pre))
+          ≡ l.initial.out.items ++ flat_map (deposit_text hash l.deal) (deposits l.pre);
     }

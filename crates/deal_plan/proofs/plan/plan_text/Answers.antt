@@ -14,5 +14,5 @@ returns g c =
     let hash = g.H.Hash32.digest_of c.args.hasher.now in
     let deal = c.args.deal.now in
     let advert = c.args.checked.now in
-    let told = (λ j. plan_by hash deal.keys deal.deposits advert.pre (c.requires.scripts j) (c.requires.transactions j)) ∙ plan_told hash advert deal in
+    let told = (λ j. plan_by hash deal advert (c.requires.scripts j) (c.requires.transactions j)) ∙ plan_told hash advert deal in
     subst (λ t. IfOk c.plan.result (λ text. text.items ≡ t)) told c.plan.ensures

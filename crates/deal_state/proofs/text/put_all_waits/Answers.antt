@@ -1,10 +1,9 @@
 use Rattle.std.proofs.Common.{◌≡◌, ℕ, ◌+◌, ◌<◌, List, ◌∷◌, ◌++◌, Bool, true, false, cond, map, drop, length, get_or, refl, sym, ap, ◌∙◌, append_assoc}
 use Rattle.std.specs.Prelude.{filter}
-use Rattle.std.specs.List.{flat_map, list_any}
+use Rattle.std.specs.List.{flat_map}
 use Rattle.std.proofs.lemmas.List.{drop_more}
-use Rattle.spec_chain.specs.Outstanding.{waits_for}
 use Rattle.spec_chain.specs.StateText.{waits_line}
-use Rattle.deal_state.specs.Prospects.{prospect_in, waits_if}
+use Rattle.deal_state.specs.Prospects.{prospect_in, is_awaited_by, waits_if}
 use Rattle.deal_state.proofs.text.put_all_waits.Goals as goal
 
 module _ (test : List ℕ → Bool) where
@@ -29,7 +28,7 @@ module _ (test : List ℕ → Bool) where
 
 pub loop-party-preserved : goal.loop-party-preserved
 loop-party-preserved c =
-    next_line (λ party. list_any (λ p. waits_for party (p.1)) (map prospect_in c.args.prospects.now)) c.args.parties.now
+    next_line (is_awaited_by (map prospect_in c.args.prospects.now)) c.args.parties.now
     c.loop-party.party-index c.party-item.result c.loop-party.out.items c.put_awaited.new.out.items c.loop-party-test.true c.party-item.is
     c.in_ok-put_awaited.ensures
     ∙ c.loop-party.invariant

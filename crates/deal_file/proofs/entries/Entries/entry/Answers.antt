@@ -1,4 +1,4 @@
-use Rattle.std.proofs.Common.{◌≡◌, ap, ◌∙◌}
+use Rattle.std.proofs.Common.{ap, ◌∙◌}
 use Rattle.std.specs.Prelude.{option_map}
 use Rattle.deal_file.specs.Entries.{entry_in}
 use Rattle.deal_file.proofs.EntryLemmas.{entry_found}

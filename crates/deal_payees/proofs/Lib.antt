@@ -1,0 +1,3 @@
+pub mod PaidLemmas
+pub mod UsedLemmas
+pub mod ShownLemmas

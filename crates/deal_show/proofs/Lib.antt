@@ -1,0 +1,3 @@
+mod Flat
+mod Low
+mod ShownTold

@@ -11,10 +11,9 @@ use Rattle.spec_text.specs.Refusals.{contract_of}
 use Rattle.spec_tool.specs.Answers.{ended}
 use Rattle.spec_tool.specs.Commands.{Printed}
 use Rattle.spec_tool.specs.Reads.{Read, Text, texts_read}
-use Rattle.spec_compiler.specs.Keyed.OwnScripts.{no_scripts}
 use Rattle.spec_deal.specs.declared.deal.Deal.{Deal}
 use Rattle.spec_deal.specs.DealFile.{read_deal}
-use Rattle.spec_deal.specs.Setting.{key_at, deal_keys, deal_instance}
+use Rattle.spec_deal.specs.Setting.{key_at, own_scripts, deal_keys, deal_instance}
 use Rattle.spec_deal.specs.Verifier.{secp256k1}
 use Rattle.spec_chain.specs.Answers.{chain_text_answer, chain_read_answer, chain_answer}
 use Rattle.spec_chain.specs.Commands as chains
@@ -22,7 +21,7 @@ use Rattle.spec_chain.specs.Commands.{ChainCommand, on_deal, chain_files}
 use Rattle.theory_deal.specs.Asked.{DealsAsk}
 use Rattle.theory_deal.specs.Causes.{DealCausesTheorem}
 use Rattle.theory_deal.specs.Ecdsa.{IsEcdsa}
-use Rattle.theory_deal.specs.Files.{DealsGiveAll, DealsAreSized, KeysArePoints, SignaturesVerify}
+use Rattle.theory_deal.specs.Files.{DealsGiveAll, DealsAreSized, KeysArePoints, ScriptsArePayable, SignaturesVerify, KeysAreGiven, WitnessesVerify}
 use Rattle.theory_deal.specs.FinishAnswers.{FinishAnswers}
 use Rattle.theory_deal.specs.Finished.{FalseWithoutOne}
 use Rattle.theory_deal.specs.ForSigners.{FilesForSigners}
@@ -39,7 +38,7 @@ use Rattle.tool_shell.specs.Answered.{GivesUp}
 use Rattle.tool_shell.proofs.Ended.{ended_with}
 use Rattle.tool_shell.proofs.Seen.{some_command}
 use Rattle.bitml_deal.specs.Dealt.{Answers, AnswersOrGivesUp, HasCausesOf, CausedByTexts, Caused, Keeps, KeepsTaken}
-use Rattle.bitml_deal.specs.Dealt.{KeepsTexts, SignersTexts, IfFinishedBy, IfFinished, IfStandsRead, ReadsFiles, FollowsChains, ForeseesChains, Headline}
+use Rattle.bitml_deal.specs.Dealt.{KeepsTexts, SignersTexts, IfFinishedBy, IfFinished, IfStandsRead, ReadsFiles, FollowsChains, ForeseesChains, KnowsWallets, Headline}
 
 -- the theorems that are cited
 pub record Theorems : Type 0 where
@@ -48,6 +47,9 @@ pub record Theorems : Type 0 where
   pub gives_all : DealsGiveAll
   pub sized : DealsAreSized
   pub points : KeysArePoints
+  pub payable : ScriptsArePayable
+  pub given : KeysAreGiven
+  pub witnesses : WitnessesVerify
   pub verified : SignaturesVerify
   pub planned : PlanOfRuns
   pub asks : DealsAsk
@@ -64,6 +66,7 @@ pub record Theorems : Type 0 where
   pub stands : StateAnswers
   pub follows : FollowsChains
   pub foresees : ForeseesChains
+  pub wallets : KnowsWallets
   pub scripts : ScriptTheorem
   pub no_other_way : FalseWithoutOne
 
@@ -105,6 +108,7 @@ module _ (t : Theorems) (hash : List ℕ → List ℕ) (bytes : HashesBytes hash
     deal_refused = t.deal_causes.deal_refused secp256k1 hash command texts;
     in_order = t.deal_causes.in_order secp256k1 hash command texts;
   }
+  caused_texts (chains.show contract deal) texts = t.causes.in_order secp256k1 hash (chains.show contract deal) texts
   caused_texts (chains.state contract deal chain signatures) texts =
       t.causes.in_order secp256k1 hash (chains.state contract deal chain signatures) texts
   caused_texts (chains.state_with contract deal chain signatures secrets) texts =
@@ -128,14 +132,18 @@ module _ (t : Theorems) (hash : List ℕ → List ℕ) (bytes : HashesBytes hash
       let s = deal_instance advert deal in
       let sized = t.sized secp256k1 hash advert deal_text deal d in
       let applied = sized.applied (well_formed contract_text advert c) in
+      let there = t.given secp256k1 hash advert deal_text deal (well_formed contract_text advert c) d in
       record {
         gives_all = t.gives_all secp256k1 advert deal_text deal d;
         sized = sized;
         points = t.points secp256k1 advert deal_text deal d;
-        verified = λ file given read. t.verified secp256k1 hash keys s file given read;
-        planned = t.planned hash keys s;
+        scripts = t.payable secp256k1 advert deal_text deal d;
+        given = there;
+        verified = λ file given read. t.verified secp256k1 hash keys s file given (inr there) read;
+        witnesses = λ file given read g among whole. t.witnesses secp256k1 hash keys s file given read g among whole;
+        planned = t.planned hash deal.network keys s;
         asks = t.asks hash keys s;
-        hashes = t.hashes hash (key_at deal.keys) no_scripts s;
+        hashes = t.hashes hash (key_at deal.keys) (own_scripts deal) s;
         lists = λ given slot. t.lists hash keys s given slot;
         starts = λ given. t.starts hash keys s given;
         finishes = λ file given strings which l read shown there. record {
@@ -161,6 +169,7 @@ module _ (t : Theorems) (hash : List ℕ → List ℕ) (bytes : HashesBytes hash
   finished_texts : (command : ChainCommand) (texts : List Text)
       → IfFinishedBy hash command texts (chain_text_answer secp256k1 hash command texts)
   finished_texts (on_deal command) texts = λ which e zero_status. t.answers secp256k1 hash command texts which bytes e zero_status
+  finished_texts (chains.show contract deal) texts = tt
   finished_texts (chains.state contract deal chain signatures) texts = tt
   finished_texts (chains.state_with contract deal chain signatures secrets) texts = tt
 
@@ -218,6 +227,7 @@ module _ (t : Theorems) (hash : List ℕ → List ℕ) (bytes : HashesBytes hash
             files = t.files;
             follows = t.follows;
             foresees = t.foresees;
+            wallets = t.wallets;
           });
           usage = λ e. (t.causes.usage secp256k1 hash command a.reads).0 (ended_with printed a.ends.went 2 (λ f. absurd (cc)) (sym e ∙ a.ends.status_is));
           unread = λ e.

@@ -1,6 +1,9 @@
+mod EndorsedLemmas
 mod FinishLemmas
+mod FundLemmas
 mod Headlines
 mod LaterLemmas
 mod NamedLemmas
 mod OpeningLemmas
+mod Replies
 mod StateLemmas

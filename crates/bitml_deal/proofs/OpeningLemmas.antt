@@ -7,7 +7,7 @@ use Rattle.spec_terms.specs.Precondition.{names_of}
 use Rattle.spec_tool.specs.Commands.{Printed}
 use Rattle.spec_deal.specs.declared.deal.Deal.{Deal}
 use Rattle.spec_deal.specs.declared.fault.DealFault.{DealFault}
-use Rattle.spec_deal.specs.Answers.{collides, unless_collided, with_deal}
+use Rattle.spec_deal.specs.Answers.{collides, unless_collided, with_shown_deal}
 use Rattle.spec_deal.specs.DealFile.{read_deal}
 use Rattle.spec_deal.specs.Needed.{needed_deposits}
 use Rattle.spec_deal.specs.Verifier.{secp256k1}
@@ -22,12 +22,12 @@ use Rattle.deal_file.specs.declared.error.DealError.TheVariants as deals
 use Rattle.deal_file.specs.Gives.{Gives, Refuses}
 use Rattle.bitml_deal.specs.declared.opening.Opening.{Opening}
 use Rattle.bitml_deal.specs.declared.opening.Opening.TheVariants.{Refused, Taken}
-use Rattle.bitml_deal.specs.Opens.{Answer, Leads, IsRefused}
+use Rattle.bitml_deal.specs.Opens.{ShownAnswer, Leads, IsRefused}
 
 -- the same is answered
-pub leads_same : {E : Type 0} (hash : List ℕ → List ℕ) (judged other : Answer → Printed) (messages : List (List ℕ))
+pub leads_same : {E : Type 0} (hash : List ℕ → List ℕ) (judged other : ShownAnswer → Printed) (messages : List (List ℕ))
     (r : Result Opening E)
-    → ((answer : Answer) → other answer ≡ judged answer) → IfOk r (Leads hash judged messages) → IfOk r (Leads hash other messages)
+    → ((answer : ShownAnswer) → other answer ≡ judged answer) → IfOk r (Leads hash judged messages) → IfOk r (Leads hash other messages)
 leads_same hash judged other messages (Ok (Refused reply)) f h = λ answer. f answer ∙ h answer
 leads_same hash judged other messages (Ok (Taken c)) f h = record {
   answer_is = λ answer. f answer ∙ h.answer_is answer;
@@ -66,9 +66,9 @@ places_of all advert text (Err error) h = tt
 -- one that isn't taken
 pub refused_leads : {E : Type 0} (hash : List ℕ → List ℕ) (advert : Advert) (read : Result Deal DealFault) (messages : List (List ℕ))
     (error : DealError) (r : Result Opening E)
-    → Refuses error read → IfOk r (IsRefused error) → IfOk r (Leads hash (λ answer. with_deal hash answer advert read) messages)
+    → Refuses error read → IfOk r (IsRefused error) → IfOk r (Leads hash (λ answer. with_shown_deal hash answer advert read) messages)
 refused_leads hash advert read messages (deals.Refused fault) (Ok (Refused reply)) e h =
-    λ answer. ap (with_deal hash answer advert) e ∙ sym h
+    λ answer. ap (with_shown_deal hash answer advert) e ∙ sym h
 refused_leads hash advert read messages (deals.Refused fault) (Ok (Taken c)) e h = absurd h
 refused_leads hash advert read messages deals.Memory (Ok opening) e h = absurd h
 refused_leads hash advert read messages error (Err requirement) e h = tt

@@ -50,11 +50,6 @@ pub told_is_first : (hash : List ℕ → List ℕ) (keys : Keys) (s : Instance) 
     → Hashed hash [] messages (deal_strings hash keys s) → told_by hash s messages secrets ≡ strings_in hash keys s secrets
 told_is_first hash keys s messages secrets h = told_first hash keys s messages secrets (hashed_first hash messages (deal_strings hash keys s) h)
 
--- ---- replies
-
-pub replied : (reply : Reply) (text : List ℕ) → reply.status ≡ 0 → reply.text ≡ text → printed reply ≡ prints 0 text
-replied reply text status same = ap (λ (n : ℕ). prints n reply.text) status ∙ ap (prints 0) same
-
 -- ---- strings that were shown
 
 module _ (hash : List ℕ → List ℕ) (s : Instance) where

@@ -1,6 +1,6 @@
 -- What the program for deals promises, from its words to its status.
-use Rattle.std.specs.Prelude.{◌≡◌, ℕ, List, [], ◌++◌, map, Bool, true, ◌⊎◌, ◌↔◌, ◌&&◌, Option, Some, None, is_some, option_map, is_err, Ok}
-use Rattle.std.specs.List.{list_all}
+use Rattle.std.specs.Prelude.{◌≡◌, ℕ, List, [], ◌++◌, map, filter, Bool, true, ◌⊎◌, ◌↔◌, ◌&&◌, ◌||◌, Option, Some, None, is_some, option_map, is_err, Ok}
+use Rattle.std.specs.List.{list_all, Contains}
 use Rattle.spec_terms.specs.Advert.{Advert}
 use Rattle.spec_terms.specs.Paths.{contract_under}
 use Rattle.spec_terms.specs.Term.{Contract}
@@ -28,20 +28,25 @@ use Rattle.spec_deal.specs.Hashed.{deal_strings}
 use Rattle.spec_deal.specs.Setting.{deal_keys, deal_instance}
 use Rattle.spec_deal.specs.SignatureFile.{read_signatures}
 use Rattle.spec_deal.specs.Slots.{Slot}
+use Rattle.spec_deal.specs.Used.{uses_key}
 use Rattle.spec_deal.specs.Verifier.{secp256k1}
 use Rattle.theory_deal.specs.Asked.{DealAsks}
-use Rattle.theory_deal.specs.Causes.{reads_deal, is_deal_refused, causes, first_status}
-use Rattle.theory_deal.specs.DealLines.{DealFilesAreRead}
+use Rattle.theory_deal.specs.Circles.{NoneIsCircular}
+use Rattle.theory_deal.specs.Causes.{reads_deal, reads_part, is_deal_refused, is_part_refused, causes, first_status}
+use Rattle.theory_deal.specs.DealLines.{DealFilesAreRead, PartsAreRead}
 use Rattle.theory_deal.specs.Ecdsa.{IsEcdsa}
-use Rattle.theory_deal.specs.Files.{GivesAll, IsSized, are_points, AreVerified}
+use Rattle.theory_deal.specs.Files.{GivesAll, IsSized, HasScripts, are_points, is_witness, AreGiven, AreVerified, IsWalletWitness}
 use Rattle.theory_deal.specs.FinishAnswers.{finishes, IsFinishedText}
 use Rattle.theory_deal.specs.Finished.{NoOtherWay}
 use Rattle.theory_deal.specs.ForSigners.{IsTaken, GivesSigners}
 use Rattle.theory_deal.specs.NothingTwice.{GivesOnce}
+use Rattle.theory_deal.specs.Plain.{PlainDeals}
 use Rattle.theory_deal.specs.Plan.{IsPlanOfRuns}
 use Rattle.theory_deal.specs.SecretLines.{SecretFilesAreRead}
 use Rattle.theory_deal.specs.SignatureLines.{SignatureFilesAreRead}
 use Rattle.theory_deal.specs.Signatures.{ListsExactly, StartsExactly}
+use Rattle.theory_deal.specs.Used.{KeysAreUsed}
+use Rattle.theory_deal.specs.Weights.{AreLight}
 use Rattle.theory_deal.specs.Whole.{AreRead, IsComplete, IsFinished}
 use Rattle.theory_chain.specs.Aside.{AsideAnywhere}
 use Rattle.theory_chain.specs.Files.{ChainsAreSpelled, ChainsAreRefused}
@@ -54,6 +59,12 @@ use Rattle.theory_chain.specs.RequirementOrder.{RequirementsInOrder, WaitsExactl
 use Rattle.theory_chain.specs.Revealed.{RevealedExactly, RevealedOnce, SecretsExactly}
 use Rattle.theory_state.specs.Causes.{causes as chain_causes}
 use Rattle.theory_state.specs.StateAnswers.{IfStands}
+use Rattle.theory_wallets.specs.Addresses.{AddressesOfDeals}
+use Rattle.theory_wallets.specs.Dust.{WarnsOfValues}
+use Rattle.theory_wallets.specs.ForWallets.{ForWallets}
+use Rattle.theory_wallets.specs.Networks.{NetworksAddAddresses}
+use Rattle.theory_wallets.specs.Ready.{PartiesEndorse, ReadyAndMissing}
+use Rattle.theory_wallets.specs.Shown.{DealsAreShown}
 use Rattle.bm_io.specs.Counts.{RoseBy}
 use Rattle.tool_shell.specs.Around.{Around}
 use Rattle.tool_shell.specs.Answered.{AnswersBy, AnswersByOrGivesUp, GivesUp}
@@ -83,15 +94,18 @@ AnswersOrGivesUp hash command before now status =
 pub record HasCauses (hash : List ℕ → List ℕ) (command : DealCommand) (texts : List Text) (status : ℕ) : Type 0 where
   -- the contract is refused
   pub contract_refused : (status ≡ 1) ↔ (is_err (contract_in (text_at texts 0)) ≡ true)
-  -- the deal file is refused, or it gives a deposit that the deal itself makes
+  -- the deal file is refused, or it gives a deposit that the deal itself makes or pays to one of its positions; one that may lack lines is
+  -- refused for its lines alone
   pub deal_refused : (status ≡ 13)
-      ↔ ((reads_deal command && is_deal_refused secp256k1 hash (contract_in (text_at texts 0)) (text_at texts 1)) ≡ true)
+      ↔ (((reads_deal command && is_deal_refused secp256k1 hash (contract_in (text_at texts 0)) (text_at texts 1))
+      || (reads_part command && is_part_refused secp256k1 (contract_in (text_at texts 0)) (text_at texts 1))) ≡ true)
   -- the status is that of the first cause in their order, and 0 where there is none
   pub in_order : status ≡ first_status (causes secp256k1 hash command texts)
 
 -- the same of a command on a chain
 abbrev pub HasCausesOf : (List ℕ → List ℕ) → ChainCommand → List Text → ℕ → Type 0
 HasCausesOf hash (on_deal command) texts status = HasCauses hash command texts status
+HasCausesOf hash (chains.show contract deal) texts status = status ≡ first_status (chain_causes secp256k1 hash (chains.show contract deal) texts)
 HasCausesOf hash (chains.state contract deal chain signatures) texts status =
     status ≡ first_status (chain_causes secp256k1 hash (chains.state contract deal chain signatures) texts)
 HasCausesOf hash (chains.state_with contract deal chain signatures secrets) texts status =
@@ -132,14 +146,22 @@ pub record Keeps (hash : List ℕ → List ℕ) (advert : Advert) (deal : Deal) 
   pub gives_all : GivesAll advert deal
   pub sized : IsSized hash advert deal
   pub points : are_points secp256k1 deal ≡ true
+  -- each output script that was given is of a kind that its wallet can spend, or be paid at
+  pub scripts : HasScripts secp256k1 deal
+  -- each key that signs was given
+  pub given : AreGiven hash (deal_keys deal) (deal_instance advert deal)
   pub verified : (file : List ℕ) (given : List Signed)
       → read_signatures secp256k1 hash (deal_keys deal) (deal_instance advert deal) file ≡ Ok given
       → AreVerified secp256k1 hash (deal_keys deal) (deal_instance advert deal) given
-  pub planned : IsPlanOfRuns hash (deal_keys deal) (deal_instance advert deal)
+  pub witnesses : (file : List ℕ) (given : List Signed)
+      → read_signatures secp256k1 hash (deal_keys deal) (deal_instance advert deal) file ≡ Ok given
+      → (g : Signed) → Contains given g → is_witness g ≡ true
+      → IsWalletWitness secp256k1 hash (deal_keys deal) (deal_instance advert deal) g
+  pub planned : IsPlanOfRuns hash deal.network (deal_keys deal) (deal_instance advert deal)
   pub asks : DealAsks hash (deal_keys deal) (deal_instance advert deal)
   -- what is hashed to compile it
   pub hashes : deal_strings hash (deal_keys deal) (deal_instance advert deal)
-      ≡ map (party_script hash (deal_keys deal)) (people (deal_instance advert deal))
+      ≡ map (party_script hash (deal_keys deal)) (filter (uses_key (deal_keys deal) advert) (people (deal_instance advert deal)))
       ++ compiled_strings hash (deal_keys deal) (deal_instance advert deal)
   pub lists : (given : List Signed) (slot : Slot) → ListsExactly hash (deal_keys deal) (deal_instance advert deal) given slot
   pub starts : (given : List Signed) → StartsExactly hash (deal_keys deal) (deal_instance advert deal) given
@@ -169,6 +191,7 @@ KeepsTexts hash (Some texts) = KeepsTaken hash texts
 abbrev pub IfFinishedBy : (List ℕ → List ℕ) → ChainCommand → List Text → Printed → Type 0
 IfFinishedBy hash (on_deal command) texts printed =
     (which : Which) → finishes command ≡ Some which → printed.status ≡ 0 → IsFinishedText secp256k1 hash texts which printed.text
+IfFinishedBy hash (chains.show contract deal) texts printed = Unit {0}
 IfFinishedBy hash (chains.state contract deal chain signatures) texts printed = Unit {0}
 IfFinishedBy hash (chains.state_with contract deal chain signatures secrets) texts printed = Unit {0}
 
@@ -195,6 +218,8 @@ SignersTexts hash (Some texts) =
 -- each file is what its lines say, or is refused at the first bad one, by its first reason
 pub record ReadsFiles : Type 0 where
   pub deals : DealFilesAreRead
+  -- also a deal file that may lack lines
+  pub parts : PartsAreRead
   pub signatures : SignatureFilesAreRead
   pub secrets : SecretFilesAreRead
   pub chains : ChainsAreSpelled
@@ -228,6 +253,30 @@ pub record ForeseesChains : Type 0 where
   -- and is then the next transaction of the longer chain
   pub goes_on : WhatCanGoesOn
 
+-- ---- wallets
+
+-- what deals with the coins of wallets show, and what stays as it is without them
+pub record KnowsWallets : Type 0 where
+  -- a plain deal prints what deals of keys print
+  pub plain : PlainDeals
+  -- a party's key is needed exactly where a deposit or a payout is by it
+  pub used : KeysAreUsed
+  -- a network adds addresses, which are read as the scripts that they are shown of
+  pub networks : NetworksAddAddresses
+  pub addresses : AddressesOfDeals
+  -- a wallet is told what its input spends, and keys of the deal what they sign
+  pub signers : ForWallets
+  -- a deal is circular exactly where it makes one of its deposits or pays to one of its positions
+  pub circles : NoneIsCircular
+  -- the start may be signed exactly where `ready` and `missing` say so in their last line
+  pub ready : ReadyAndMissing
+  pub endorse : PartiesEndorse
+  -- JSON shows the transactions, each with its inputs and outputs, and what each output is
+  pub shown : DealsAreShown
+  -- small outputs and low fees are warned of, and no transaction is too heavy for nodes
+  pub values : WarnsOfValues
+  pub light : AreLight
+
 -- ---- the headline
 
 -- an answer with what is known of it
@@ -251,6 +300,8 @@ pub record Serves (hash : List ℕ → List ℕ) (command : Option ChainCommand)
   pub follows : FollowsChains
   -- and what may come next is foreseen
   pub foresees : ForeseesChains
+  -- and the coins of wallets are told as they are
+  pub wallets : KnowsWallets
 
 -- what a call with this command does to what stands around it, and its status
 pub record Headline (hash : List ℕ → List ℕ) (command : Option ChainCommand) (before now : Around) (status : ℕ) : Type 0 where

@@ -14,24 +14,29 @@ use Rattle.spec_deal.specs.declared.fault.SignatureFault.TheVariants as signatur
 use Rattle.spec_deal.specs.declared.signed.Signed.{Signed}
 use Rattle.spec_deal.specs.declared.transaction.Transaction.{Transaction}
 use Rattle.spec_deal.specs.Answers as answers
-use Rattle.spec_deal.specs.Answers.{of_transaction, of_signatures, with_signatures, with_secrets, finished_answer}
+use Rattle.spec_deal.specs.Answers.{of_transaction, of_signatures, with_signatures, with_secrets, finished_answer, ready_answer}
 use Rattle.spec_deal.specs.Commands as commands
 use Rattle.spec_deal.specs.Commands.{DealCommand}
 use Rattle.spec_deal.specs.DealText.{plan_text, psbts_text, unsigned_psbt, missing_text, held_text}
+use Rattle.spec_deal.specs.ReadyText.{endorse_text}
 use Rattle.spec_deal.specs.RefusedText.{finish_refused_line}
 use Rattle.spec_deal.specs.SecretFile.{has_length, SecretsRead, shows}
 use Rattle.spec_deal.specs.SignatureFile.{read_given}
 use Rattle.spec_deal.specs.Verifier.{secp256k1}
+use Rattle.spec_deal.specs.WarnText.{warn_text}
+use Rattle.spec_show.specs.ShowText.{show_text}
 use Rattle.spec_chain.specs.Answers.{chain_in, with_course, told_in, stood_answer}
 use Rattle.spec_chain.specs.Chain.{Course, follow_reading}
 use Rattle.spec_chain.specs.Commands as chains
 use Rattle.spec_chain.specs.Commands.{ChainCommand, on_deal}
 use Rattle.theory_deal.specs.Causes.{reads_deal as reads_its_deal}
 use Rattle.spec_tool.specs.Replies.{printed}
+use Rattle.deal_file.specs.declared.error.DealError.{DealError}
+use Rattle.deal_file.specs.declared.error.DealError.TheVariants as deals
 use Rattle.deal_finish.specs.declared.error.FinishError.{FinishError}
 use Rattle.deal_finish.specs.declared.error.FinishError.TheVariants as finishes
 use Rattle.deal_follow.specs.declared.following.Course.{Course as Followed}
-use Rattle.bitml_deal.specs.Opens.{Answer}
+use Rattle.bitml_deal.specs.Opens.{Answer, ShownAnswer}
 use Rattle.bitml_deal.specs.declared.secrets.Shown.{Shown}
 use Rattle.bitml_deal.specs.declared.secrets.Shown.TheVariants.{Refused, Taken}
 
@@ -46,20 +51,40 @@ finish_answer hash signatures secrets keys s l =
     with_signatures (λ given. with_secrets (λ strings. finished_answer hash keys s l given strings) (strings_in hash keys s secrets))
     (answers.signatures_in secp256k1 hash keys s signatures)
 
+-- what nodes wouldn't relay, by a file of secrets, or none
+abbrev pub warn_answer : (List ℕ → List ℕ) → Option Text → Answer
+warn_answer hash secrets keys s =
+    with_secrets (λ strings. prints 0 (warn_text hash keys s strings)) (strings_in hash keys s secrets)
+
+-- the same, and whether the initial transaction may be signed
+abbrev pub ready_later : (List ℕ → List ℕ) → Text → Option Text → Answer
+ready_later hash signatures secrets keys s =
+    with_signatures (λ given. with_secrets (λ strings. ready_answer hash keys s given strings) (strings_in hash keys s secrets))
+    (answers.signatures_in secp256k1 hash keys s signatures)
+
 -- what a command answers of a deal; one that reads none answers nothing here
-abbrev pub deal_later_answer : (List ℕ → List ℕ) → DealCommand → List Text → Answer
-deal_later_answer hash (commands.keys contract) texts = λ keys s. unread
-deal_later_answer hash (commands.plan contract deal) texts = λ keys s. prints 0 (plan_text hash keys s)
-deal_later_answer hash (commands.psbts contract deal) texts = λ keys s. prints 0 (psbts_text hash keys s)
+abbrev pub deal_later_answer : (List ℕ → List ℕ) → DealCommand → List Text → ShownAnswer
+deal_later_answer hash (commands.keys contract) texts = λ network keys s. unread
+deal_later_answer hash (commands.plan contract deal) texts = λ network keys s. prints 0 (plan_text hash network keys s)
+deal_later_answer hash (commands.psbts contract deal) texts = λ network keys s. prints 0 (psbts_text hash keys s)
 deal_later_answer hash (commands.psbt contract deal which) texts =
-    of_transaction hash which (λ keys s l. prints 0 (psbt_line (unsigned_psbt hash l)))
+    λ network. of_transaction hash which (λ keys s l. prints 0 (psbt_line (unsigned_psbt hash keys s.advert l)))
 deal_later_answer hash (commands.missing contract deal signatures) texts =
-    of_signatures secp256k1 hash (λ keys s given. prints 0 (missing_text hash keys s given)) (text_at texts 2)
+    λ network. of_signatures secp256k1 hash (λ keys s given. prints 0 (missing_text hash keys s given)) (text_at texts 2)
 deal_later_answer hash (commands.held contract deal signatures) texts =
-    of_signatures secp256k1 hash (λ keys s given. prints 0 (held_text hash keys s given)) (text_at texts 2)
-deal_later_answer hash (commands.finish contract deal which signatures) texts = of_transaction hash which (finish_answer hash (text_at texts 2) None)
+    λ network. of_signatures secp256k1 hash (λ keys s given. prints 0 (held_text hash keys s given)) (text_at texts 2)
+deal_later_answer hash (commands.finish contract deal which signatures) texts =
+    λ network. of_transaction hash which (finish_answer hash (text_at texts 2) None)
 deal_later_answer hash (commands.finish_with contract deal which signatures secrets) texts =
-    of_transaction hash which (finish_answer hash (text_at texts 2) (Some (text_at texts 3)))
+    λ network. of_transaction hash which (finish_answer hash (text_at texts 2) (Some (text_at texts 3)))
+deal_later_answer hash (commands.fund contract deal) texts = λ network keys s. unread
+deal_later_answer hash (commands.warn contract deal) texts = λ network. warn_answer hash None
+deal_later_answer hash (commands.warn_with contract deal secrets) texts = λ network. warn_answer hash (Some (text_at texts 2))
+deal_later_answer hash (commands.ready contract deal signatures) texts = λ network. ready_later hash (text_at texts 2) None
+deal_later_answer hash (commands.ready_with contract deal signatures secrets) texts =
+    λ network. ready_later hash (text_at texts 2) (Some (text_at texts 3))
+deal_later_answer hash (commands.endorse contract deal party) texts = λ network keys s. prints 0 (endorse_text hash keys s party)
+deal_later_answer hash (commands.hashes contract secrets) texts = λ network keys s. unread
 
 -- the strings of a file of secrets, behind these messages; without one there are none
 abbrev pub told_by : (List ℕ → List ℕ) → Instance → List (List ℕ) → Option Text → SecretsRead
@@ -87,15 +112,17 @@ state_answer hash chain signatures secrets keys s =
 -- whether a command reads a deal
 abbrev pub reads_deal : ChainCommand → Bool
 reads_deal (on_deal command) = reads_its_deal command
+reads_deal (chains.show contract deal) = true
 reads_deal (chains.state contract deal chain signatures) = true
 reads_deal (chains.state_with contract deal chain signatures secrets) = true
 
 -- what a command answers of a deal
-abbrev pub later_answer : (List ℕ → List ℕ) → ChainCommand → List Text → Answer
+abbrev pub later_answer : (List ℕ → List ℕ) → ChainCommand → List Text → ShownAnswer
 later_answer hash (on_deal command) texts = deal_later_answer hash command texts
-later_answer hash (chains.state contract deal chain signatures) texts = state_answer hash (text_at texts 2) (text_at texts 3) None
+later_answer hash (chains.show contract deal) texts = λ network keys s. prints 0 (show_text hash network keys s)
+later_answer hash (chains.state contract deal chain signatures) texts = λ network. state_answer hash (text_at texts 2) (text_at texts 3) None
 later_answer hash (chains.state_with contract deal chain signatures secrets) texts =
-    state_answer hash (text_at texts 2) (text_at texts 3) (Some (text_at texts 4))
+    λ network. state_answer hash (text_at texts 2) (text_at texts 3) (Some (text_at texts 4))
 
 -- the signatures that a file gives to these transactions
 abbrev pub given_in : List Transaction → Text → Result (List Signed) SignatureFault
@@ -111,3 +138,8 @@ Tells read (Taken strings) = read ≡ shows strings
 abbrev pub IsUnfinished : FinishError → Printed → Type 0
 IsUnfinished (finishes.Refused refusal) printed = printed ≡ prints 16 (finish_refused_line refusal)
 IsUnfinished finishes.Memory printed = ⊥
+
+-- a deal file gives nothing for this, and so it is replied
+abbrev pub IsUngiven : DealError → Printed → Type 0
+IsUngiven (deals.Refused fault) printed = printed ≡ answers.deal_refused fault
+IsUngiven deals.Memory printed = ⊥

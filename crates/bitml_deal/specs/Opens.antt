@@ -1,5 +1,5 @@
 -- What is known of the contract and the deal of a command, once they are compiled.
-use Rattle.std.specs.Prelude.{◌≡◌, ℕ, List, [], true}
+use Rattle.std.specs.Prelude.{◌≡◌, ℕ, List, [], true, Option}
 use Rattle.std.specs.List.{list_all}
 use Rattle.spec_terms.specs.Precondition.{names_of}
 use Rattle.spec_compiler.specs.Keyed.Keys.{Keys}
@@ -24,9 +24,16 @@ use Rattle.bitml_deal.specs.declared.opening.Opening.TheVariants.{Refused, Taken
 abbrev pub Answer : Type 0
 Answer = Keys → Instance → Printed
 
+-- the same of one that shows addresses, by the network of the deal's file
+abbrev pub ShownAnswer : Type 0
+ShownAnswer = Option (List ℕ) → Answer
+
 -- the answer, by what was compiled
 abbrev pub answered : Answer → Compiled → Printed
 answered answer c = answer (deal_keys c.deal) (deal_instance c.contract c.deal)
+
+abbrev pub shown_answered : ShownAnswer → Compiled → Printed
+shown_answered answer c = answered (answer c.deal.network) c
 
 -- what was compiled is what is defined, and signers can be given each transaction
 pub record IsMade (hash : List ℕ → List ℕ) (c : Compiled) : Type 0 where
@@ -40,14 +47,14 @@ abbrev pub HashedAll : (List ℕ → List ℕ) → List (List ℕ) → Compiled 
 HashedAll hash messages c = Hashed hash [] messages (deal_strings hash (deal_keys c.deal) (deal_instance c.contract c.deal))
 
 -- the files are taken: whatever is answered of them is answered of this
-pub record IsTaken (hash : List ℕ → List ℕ) (judged : Answer → Printed) (messages : List (List ℕ)) (c : Compiled) : Type 0 where
-  pub answer_is : (answer : Answer) → judged answer ≡ answered answer c
+pub record IsTaken (hash : List ℕ → List ℕ) (judged : ShownAnswer → Printed) (messages : List (List ℕ)) (c : Compiled) : Type 0 where
+  pub answer_is : (answer : ShownAnswer) → judged answer ≡ shown_answered answer c
   pub made : IsMade hash c
   pub hashed : HashedAll hash messages c
 
 -- the files are taken, or whatever is answered of them, this is replied
-abbrev pub Leads : (List ℕ → List ℕ) → (Answer → Printed) → List (List ℕ) → Opening → Type 0
-Leads hash judged messages (Refused reply) = (answer : Answer) → judged answer ≡ printed reply
+abbrev pub Leads : (List ℕ → List ℕ) → (ShownAnswer → Printed) → List (List ℕ) → Opening → Type 0
+Leads hash judged messages (Refused reply) = (answer : ShownAnswer) → judged answer ≡ printed reply
 Leads hash judged messages (Taken c) = IsTaken hash judged messages c
 
 -- a deal isn't taken for this, and so it is replied

@@ -8,22 +8,27 @@ ghost use Rattle.spec_deal.specs.Verifier.{secp256k1};
 ghost use Rattle.spec_tool.specs.Replies.{printed};
 ghost use Rattle.deal_command.specs.Seen.{command};
 ghost use Rattle.bitml_deal.specs.Later.{reads_deal, later_answer};
-ghost use Rattle.bitml_deal.specs.Opens.{answered, IsMade, HashedAll};
+ghost use Rattle.bitml_deal.specs.Opens.{shown_answered, IsMade, HashedAll};
 
+use crate::endorse::endorse_reply;
 use crate::finish::finish_reply;
+use crate::fund::fund_texts;
+use crate::hashes::hashes_texts;
 use crate::keys::keys_texts;
 use crate::opening::{Compiled, Opening, open};
-use crate::plan::plan_reply;
+use crate::plan::{plan_reply, show_reply};
 use crate::psbt::{psbt_reply, psbts_reply};
+use crate::ready::ready_reply;
 use crate::signatures::{held_reply, missing_reply};
 use crate::state::state_reply;
+use crate::warn::warn_reply;
 use bm_hash::{Hash32, Trail};
 use deal_command::DealCommand;
 use spec_data::{Bytes, OutOfMemory};
 use spec_tool::Reply;
 use std::alloc::Global;
 
-// The file of signatures of a command, or the chain file of one that reads a chain.
+// The file of signatures of a command, the chain file of one that reads a chain, or the secrets of one that reads no signatures.
 fn third(texts: &[Option<Bytes>]) -> &Option<Bytes>
     requires { 3 ≤ length texts.now }
     ensures { result.now ≡ text_at texts.now 2 }
@@ -60,11 +65,12 @@ fn compiled_reply<H: Hash32 + Drop>(
     requires made { IsMade (H.digest_of trail.old.hasher) compiled.now }
     requires hashed { HashedAll (H.digest_of trail.old.hasher) trail.old.messages compiled.now }
     ensures { let hash = H.digest_of trail.old.hasher in
-        IfOk result (λ reply. printed reply ≡ answered (later_answer hash (command call.now) texts.now) compiled.now) }
+        IfOk result (λ reply. printed reply ≡ shown_answered (later_answer hash (command call.now) texts.now) compiled.now) }
 {
     let transactions = compiled.made.transactions.as_slice();
     match call {
-        DealCommand::Keys(_) => unreachable!(),
+        DealCommand::Keys(_) | DealCommand::Fund(_, _) | DealCommand::Hashes(_, _) =>
+            unreachable!(),
         DealCommand::Plan(_, _) => plan_reply(alloc, trail.hasher(), compiled),
         DealCommand::Psbts(_, _) => psbts_reply(alloc, transactions),
         DealCommand::Psbt(_, _, which) => psbt_reply(alloc, transactions, which),
@@ -77,6 +83,14 @@ fn compiled_reply<H: Hash32 + Drop>(
             let secrets = Some(fourth(texts));
             finish_reply(alloc, trail, compiled, which, third(texts), secrets)
         }
+        DealCommand::Warn(_, _) => warn_reply(alloc, trail, compiled, None),
+        DealCommand::WarnWith(_, _, _) => warn_reply(alloc, trail, compiled, Some(third(texts))),
+        DealCommand::Ready(_, _, _) => ready_reply(alloc, trail, compiled, third(texts), None),
+        DealCommand::ReadyWith(_, _, _, _) => {
+            ready_reply(alloc, trail, compiled, third(texts), Some(fourth(texts)))
+        }
+        DealCommand::Endorse(_, _, party) => endorse_reply(alloc, transactions, party.as_bytes()),
+        DealCommand::Show(_, _) => show_reply(alloc, trail.hasher(), compiled),
         DealCommand::State(_, _, _, _) => {
             state_reply(alloc, trail, compiled, third(texts), fourth(texts), None)
         }
@@ -117,6 +131,8 @@ pub(crate) fn text_reply<H: Hash32 + Drop>(
 {
     match call {
         DealCommand::Keys(_) => keys_texts(alloc, texts),
+        DealCommand::Fund(_, _) => fund_texts(alloc, hash, texts),
+        DealCommand::Hashes(_, _) => hashes_texts(alloc, hash, texts),
         _ => deal_reply(alloc, hash, call, texts),
     }
 }

@@ -4,16 +4,21 @@
 #![tactic(auto)]
 
 mod answering;
+mod endorse;
 mod finish;
+mod fund;
+mod hashes;
 mod keys;
 mod naming;
 mod opening;
 mod plan;
 mod psbt;
+mod ready;
 mod secrets;
 mod signatures;
 mod state;
 mod tool;
+mod warn;
 
 use bm_hash::Sha;
 use bm_io::{StdFiles, StdSink};

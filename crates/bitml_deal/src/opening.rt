@@ -9,7 +9,7 @@ ghost use Rattle.spec_deal.specs.Verifier.{secp256k1};
 ghost use Rattle.bm_hash.specs.Messages.{evidence_of};
 ghost use Rattle.spec_tool.specs.Replies.{printed};
 ghost use Rattle.deal_file.specs.Gives.{Gives};
-ghost use Rattle.bitml_deal.specs.Opens.{answered, IsMade, HashedAll, Leads, IsRefused};
+ghost use Rattle.bitml_deal.specs.Opens.{shown_answered, IsMade, HashedAll, Leads, IsRefused};
 
 use bm_hash::{Hash32, Trail, TrailError};
 use bm_wellformed::Checked;
@@ -42,8 +42,8 @@ pub(crate) enum Opening {
 
 // ---- replies
 
-// The deal file is refused.
-fn deal_refused(alloc: Global, fault: &DealFault) -> Result<Reply, OutOfMemory>
+/// The deal file is refused.
+pub(crate) fn deal_refused(alloc: Global, fault: &DealFault) -> Result<Reply, OutOfMemory>
     ensures { IfOk result (λ reply. printed reply ≡ answers.deal_refused fault.now) }
 {
     let mut text = Vec::new(alloc);
@@ -79,16 +79,26 @@ fn deal_in(alloc: Global, contract: &Checked, text: &Option<Bytes>) -> Result<De
     }
 }
 
-// What is compiled is taken, unless the deal makes one of its own deposits.
-fn unless_circular(alloc: Global, compiled: Compiled) -> Result<Opening, OutOfMemory>
-    ensures { (hash : List ℕ → List ℕ) (messages : List (List ℕ)) → IsMade hash compiled → HashedAll hash messages compiled
+// What is compiled is taken, unless the deal makes one of its own deposits or pays to one of its positions.
+fn unless_circular<H: Hash32>(
+    alloc: Global,
+    hasher: &H,
+    compiled: Compiled,
+) -> Result<Opening, OutOfMemory>
+    ensures { let hash = H.digest_of hasher.now in
+        (messages : List (List ℕ)) → IsMade hash compiled → HashedAll hash messages compiled
         → IfOk result (Leads hash (λ answer. answers.unless_circular (answers.circular hash (deal_keys compiled.deal)
-        (deal_instance compiled.contract compiled.deal)) (answered answer compiled)) messages) }
+        (deal_instance compiled.contract compiled.deal)) (shown_answered answer compiled)) messages) }
 {
-    let deposits = compiled.deal.deposits.as_slice();
-    match circular(deposits, compiled.made.transactions.as_slice()) {
+    match circular(
+        alloc,
+        hasher,
+        &compiled.contract,
+        &compiled.deal,
+        &compiled.made,
+    )? {
         None => Ok(Opening::Taken(compiled)),
-        Some(name) => Ok(Opening::Refused(deal_refused(alloc, &DealFault::Circular(*name))?)),
+        Some(name) => Ok(Opening::Refused(deal_refused(alloc, &DealFault::Circular(name))?)),
     }
 }
 
@@ -103,12 +113,13 @@ fn compile<H: Hash32 + Drop>(
     requires places { names_of deal.deposits ≡ needed_deposits contract }
     ensures hasher { trail.new.hasher ≡ trail.old.hasher }
     ensures leads { let hash = H.digest_of trail.old.hasher in
-        IfOk result (Leads hash (λ answer. answers.with_deal hash answer contract (Ok deal)) trail.new.messages) }
+        IfOk result (Leads hash (λ answer. answers.with_shown_deal hash answer contract (Ok deal)) trail.new.messages) }
 {
     match compile_deal(alloc, trail, &contract, &deal) {
         Ok(made) => {
             unless_circular(
                 alloc,
+                trail.hasher(),
                 Compiled {
                     contract,
                     deal,
@@ -141,7 +152,7 @@ fn open_taken<H: Hash32 + Drop>(
     requires new { trail.old.messages ≡ [] }
     ensures hasher { trail.new.hasher ≡ trail.old.hasher }
     ensures leads { let hash = H.digest_of trail.old.hasher in
-        IfOk result (Leads hash (λ answer. answers.with_deal hash answer contract (answers.deal_in secp256k1 contract text.now)) trail.new.messages) }
+        IfOk result (Leads hash (λ answer. answers.with_shown_deal hash answer contract (answers.deal_in secp256k1 contract text.now)) trail.new.messages) }
 {
     match deal_in(alloc, &contract, text) {
         Ok(deal) => compile(alloc, trail, contract, deal),
@@ -159,7 +170,7 @@ pub(crate) fn open<H: Hash32 + Drop>(
     requires two { 2 ≤ length texts.now }
     ensures hasher { trail.new.hasher ≡ trail.old.hasher }
     ensures leads { let hash = H.digest_of trail.old.hasher in
-        IfOk result (Leads hash (λ answer. answers.of_deal secp256k1 hash answer texts.now) trail.new.messages) }
+        IfOk result (Leads hash (λ answer. answers.of_shown_deal secp256k1 hash answer texts.now) trail.new.messages) }
 {
     match contract_in(alloc, &texts[0]) {
         Ok(contract) => open_taken(alloc, trail, contract, &texts[1]),

@@ -35,7 +35,7 @@ pub(crate) fn psbts_reply(alloc: Global, transactions: &[Transaction]) -> Result
 fn one_reply(alloc: Global, transaction: &Transaction) -> Result<Reply, OutOfMemory>
     requires { is_signable transaction.now ≡ true }
     ensures { (hash : List ℕ → List ℕ) (keys : Keys) (advert : Advert) (l : Listed) → transaction.now ≡ transaction_of hash keys advert l
-        → IfOk result (λ reply. printed reply ≡ prints 0 (psbt_line (shown.unsigned_psbt hash l))) }
+        → IfOk result (λ reply. printed reply ≡ prints 0 (psbt_line (shown.unsigned_psbt hash keys advert l))) }
 {
     let text = psbt_text(alloc, transaction)?;
     Ok(Reply::new(0, text))
@@ -50,7 +50,7 @@ pub(crate) fn psbt_reply(
     requires { list_all is_signable transactions.now ≡ true }
     ensures { (hash : List ℕ → List ℕ) (keys : Keys) (s : Instance) → transactions.now ≡ transactions_of hash keys s
         → IfOk result (λ reply. printed reply
-        ≡ answers.of_transaction hash which.now (λ keys s l. prints 0 (psbt_line (shown.unsigned_psbt hash l))) keys s) }
+        ≡ answers.of_transaction hash which.now (λ keys s l. prints 0 (psbt_line (shown.unsigned_psbt hash keys s.advert l))) keys s) }
 {
     match named(transactions, which) {
         None => no_path(alloc, which),

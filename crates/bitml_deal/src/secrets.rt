@@ -28,8 +28,8 @@ pub(crate) enum Shown {
     Taken(Strings),
 }
 
-// The file of secrets is refused.
-fn secrets_refused(alloc: Global, fault: SecretFault) -> Result<Reply, OutOfMemory>
+/// The file of secrets is refused.
+pub(crate) fn secrets_refused(alloc: Global, fault: SecretFault) -> Result<Reply, OutOfMemory>
     ensures { IfOk result (λ reply. printed reply ≡ prints 15 (secrets_refused_line fault)) }
 {
     let mut text = Vec::new(alloc);

@@ -23,13 +23,19 @@ use theory_chain::{
     what_can_goes_on,
 };
 use theory_deal::{
-    deal_files_are_read, deal_statuses_have_causes, deals_are_sized, deals_ask, deals_give_all,
-    deals_hash, false_without_one, files_for_signers, finish_answers, finish_theorem,
-    finishes_exactly, is_ecdsa, keys_are_points, may_start, missing_and_held, nothing_twice,
-    plan_of_runs, secret_files_are_read, signature_files_are_read, signatures_verify,
+    are_light, deal_files_are_read, deal_statuses_have_causes, deals_are_sized, deals_ask,
+    deals_give_all, deals_hash, false_without_one, files_for_signers, finish_answers,
+    finish_theorem, finishes_exactly, is_ecdsa, keys_are_given, keys_are_points, keys_are_used,
+    may_start, missing_and_held, none_is_circular, nothing_twice, parts_are_read, plain_deals,
+    plan_of_runs, scripts_are_payable, secret_files_are_read, signature_files_are_read,
+    signatures_verify, witnesses_verify,
 };
 use theory_script::any_keys::script_theorem;
 use theory_state::{chain_statuses_have_causes, state_answers};
+use theory_wallets::{
+    addresses_of_deals, deals_are_shown, for_wallets, networks_add_addresses, parties_endorse,
+    ready_and_missing, warns_of_values,
+};
 use tool_shell::{Call, serve};
 
 /// A command on a deal, as it is served.
@@ -99,6 +105,9 @@ pub fn deal_tool<H: Hash32 + Drop, F: Files, S: Sink>(
     deals_give_all();
     deals_are_sized();
     keys_are_points();
+    scripts_are_payable();
+    keys_are_given();
+    witnesses_verify();
     signatures_verify();
     plan_of_runs();
     deals_ask();
@@ -107,6 +116,7 @@ pub fn deal_tool<H: Hash32 + Drop, F: Files, S: Sink>(
     nothing_twice();
     is_ecdsa();
     deal_files_are_read();
+    parts_are_read();
     signature_files_are_read();
     secret_files_are_read();
     missing_and_held();
@@ -131,6 +141,17 @@ pub fn deal_tool<H: Hash32 + Drop, F: Files, S: Sink>(
     cannot_is_refused();
     not_asked_is_spent();
     what_can_goes_on();
+    plain_deals();
+    keys_are_used();
+    networks_add_addresses();
+    addresses_of_deals();
+    for_wallets();
+    none_is_circular();
+    ready_and_missing();
+    parties_endorse();
+    deals_are_shown();
+    warns_of_values();
+    are_light();
     script_theorem();
     false_without_one();
     serve(alloc, hash, call_of(alloc, words), files, out)

@@ -21,7 +21,7 @@ one_reply-requires c =
 
 pub returns-in-None : goal.returns-in-None
 returns-in-None c = λ hash keys s same.
-    let answer : Keys → Instance → Listed → Printed = λ keys s l. prints 0 (psbt_line (unsigned_psbt hash l)) in
+    let answer : Keys → Instance → Listed → Printed = λ keys s l. prints 0 (psbt_line (unsigned_psbt hash keys s.advert l)) in
     subst (λ (p : Printed). IfOk c.no_path.result (λ reply. printed reply ≡ p))
     (sym (not_there hash keys s c.args.which.now c.args.transactions.now same
     (sym (ap (option_map (λ t. t.now)) c.in-None.is) ∙ c.named.ensures) answer))
@@ -29,7 +29,7 @@ returns-in-None c = λ hash keys s same.
 
 pub returns-in-Some : goal.returns-in-Some
 returns-in-Some c = λ hash keys s same.
-    let answer : Keys → Instance → Listed → Printed = λ keys s l. prints 0 (psbt_line (unsigned_psbt hash l)) in
+    let answer : Keys → Instance → Listed → Printed = λ keys s l. prints 0 (psbt_line (unsigned_psbt hash keys s.advert l)) in
     let x = found_there hash keys s c.args.which.now c.args.transactions.now c.in-Some.transaction.now same
     (sym (ap (option_map (λ t. t.now)) c.in-Some.is) ∙ c.named.ensures) in
     subst (λ (p : Printed). IfOk c.one_reply.result (λ reply. printed reply ≡ p))

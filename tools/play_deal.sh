@@ -1,7 +1,8 @@
 #!/usr/bin/env bash
-# Plays one deal from its keys to the payouts on a private test chain of its own, by a signer whose keys everybody has. At each step
-# `state` has to say that exactly what the node takes can come. It needs a node with Bitcoin Core's rules, litecoind; where there is none
-# it says so and ends well. BITML_DEAL names another program to ask.
+# Plays deals from their keys to the payouts on a private test chain of its own. In the first the deposits are of keys; in the others they
+# are coins of the node's own wallets, and payouts go to fresh addresses of theirs. One has a coin that a branch puts, and one is called
+# off. Branches are signed by a signer whose keys everybody has. At each step `state` has to say that exactly what the node takes can come.
+# It needs a node with Bitcoin Core's rules, litecoind; where there is none it says so and ends well. BITML_DEAL names another program.
 set -euo pipefail
 top=$(dirname "$(dirname "$(readlink -f "${BASH_SOURCE[0]}")")")
 if ! command -v litecoind >/dev/null || ! command -v litecoin-cli >/dev/null; then
@@ -62,13 +63,18 @@ y B 0.00020000'
 mine 1
 deal plan contract deal_file >plan
 
+# Each deposit has to be there, of the value and to the script that the plan has.
+deposits_are_there() {
+    local name txid vout value script there
+    while read -r _ name txid vout value script _; do
+        there=$(node gettxout "$txid" "$vout")
+        printf '%s %s\n' "$name" "$value"
+        grep -q "\"hex\": \"$script\"" <<<"$there"
+        [ "$(sed -n 's/.*"value": \([0-9.]*\),/\1/p' <<<"$there")" = "$(printf '%d.%08d' $((value / 100000000)) $((value % 100000000)))" ]
+    done < <(grep '^deposit ' plan)
+}
 say 'the deposits are there, of the value and to the script that the plan has'
-while read -r _ name txid vout value script; do
-    there=$(node gettxout "$txid" "$vout")
-    printf '%s %s\n' "$name" "$value"
-    grep -q "\"hex\": \"$script\"" <<<"$there"
-    [ "$(sed -n 's/.*"value": \([0-9.]*\),/\1/p' <<<"$there")" = "$(printf '%d.%08d' $((value / 100000000)) $((value % 100000000)))" ]
-done < <(grep '^deposit ' plan)
+deposits_are_there
 
 # Whether the node would take a transaction now; `said` has what it answers.
 takes() { # FILE
@@ -80,8 +86,8 @@ takes() { # FILE
 # `now` as file of secrets, exactly what can come is taken by the node.
 look() { # [SECRETS]
     local which
-    "$top/tools/chain_file.py" $first litecoin-cli "${options[@]}" >blocks
-    "$top/tools/chain_file.py" --of plan --of deal_file $first litecoin-cli "${options[@]}" >chain
+    "$top/tools/chain_file.py" "$first" litecoin-cli "${options[@]}" >blocks
+    "$top/tools/chain_file.py" --of plan --of deal_file "$first" litecoin-cli "${options[@]}" >chain
     deal state contract deal_file blocks signatures "$@" >now
     deal state contract deal_file chain signatures "$@" | cmp - now
     sed -n '/^height/,$p' now
@@ -176,5 +182,197 @@ alice listunspent | grep -q "$txid" && echo "it is in A's wallet"
 say "B's way is as closed as A's, since the contract's output is spent"
 says r.0.hex missing-inputs
 says r.1.hex missing-inputs
+
+# ---- the second deal: coins of two wallets of the node
+
+mkdir "$folder/second"
+cd "$folder/second"
+say 'a second deal: two wallets, each with some coins of its own'
+for party in a b; do
+    node -named createwallet wallet_name=$party >/dev/null
+    bank sendtoaddress "$(node -rpcwallet=$party getnewaddress '' bech32)" 0.01 >/dev/null
+done
+mine 1
+wallet() { node -rpcwallet="$1" "${@:2}"; }
+lock=$(($(node getblockcount) + 10))
+sed "s/after [0-9]* /after $lock /" "$top/examples/deals/timed_commitment/contract.bitml" >contract
+
+say 'what is to be paid, before there is anything'
+printf 'network rltc\n' >deal_file
+deal fund contract deal_file | tee funds
+grep -qx 'deposit x .. .. 100000 ..' funds
+
+say 'payouts go to fresh addresses, and the keys of branches and the hash are there'
+for party in A B; do printf 'pay %s %s\n' $party "$(wallet ${party,} getnewaddress '' bech32)"; done | tee -a deal_file
+deal keys contract | signer keys "$seed" | grep '^key B:' >>deal_file
+signer secrets "$seed" a >secrets
+deal hashes contract secrets | tee -a deal_file
+deal fund contract deal_file
+
+say 'each pays to an address of its own, one of a key and one of two keys, and locks the coin in its wallet'
+# The address of an own wallet that needs signatures of two of its keys.
+of_two_keys() {
+    wallet b addmultisigaddress 2 "[\"$(wallet b getnewaddress)\", \"$(wallet b getnewaddress)\"]" '' bech32 | sed -n 's/.*"address": "\(.*\)",/\1/p'
+}
+brings() { # DEPOSIT WALLET ADDRESS COINS
+    local txid vout
+    txid=$(wallet "$2" sendtoaddress "$3" "$4")
+    vout=$(wallet "$2" listunspent 0 9999999 "[\"$3\"]" | sed -n 's/.*"vout": \([0-9]*\),/\1/p')
+    wallet "$2" lockunspent false "[{\"txid\": \"$txid\", \"vout\": $vout}]" >/dev/null
+    printf 'deposit %s %s %s %s\n' "$1" "$txid" "$vout" "$3" | tee -a deal_file
+}
+brings x a "$(wallet a getnewaddress '' bech32)" 0.00100000
+brings y b "$(of_two_keys)" 0.00020000
+mine 1
+first=$(node getblockcount)
+deal plan contract deal_file >plan
+deposits_are_there
+deal fund contract deal_file | while read -r line; do grep -qxF "$line" plan; done
+deal warn contract deal_file secrets
+[ "$(deal warn contract deal_file secrets)" = 'warnings 0' ]
+
+# Whether `init` may be signed: the last line, and the status.
+readiness() { # STATUS LINE
+    local status=0
+    deal ready contract deal_file signatures secrets >ready || status=$?
+    cat ready
+    [ $status -eq "$1" ] && [ "$(tail -n 1 ready)" = "$2" ]
+}
+say 'no key of a deposit is asked for; before both have endorsed nobody may sign the beginning'
+deal endorse contract deal_file A >to_endorse
+: >signatures
+readiness 16 'init not endorsed r.0 A'
+signer sign "$seed" A endorse plan to_endorse >>signatures
+readiness 16 'init not endorsed r.0 B'
+deal endorse contract deal_file B >to_endorse
+signer sign "$seed" B endorse plan to_endorse >>signatures
+readiness 0 'init may be signed'
+look 2>/dev/null
+stands 'needs signature init 0 W:x init'
+stands 'needs signature init 1 W:y init'
+stands 'waits B'
+
+say 'each wallet signs its own input of the beginning and finishes it'
+for party in a b; do
+    wallet $party walletprocesspsbt "$(deal psbt contract deal_file init)" true ALL | sed -n 's/.*"psbt": "\(.*\)",/\1/p' >>signatures
+done
+deal missing contract deal_file signatures
+deal held contract deal_file signatures | grep '^held' | signer verify >verified
+grep -qx 'good init 0 W:x init' verified
+deal held contract deal_file signatures | grep '^witness init 1 W:y init - ' >/dev/null
+look 2>/dev/null
+stands 'can init'
+send init
+
+say 'A stays silent, and B is paid from the block behind its lock on'
+look
+stands 'needs secret a of A'
+stands "needs height $lock"
+deal finish contract deal_file r.1 signatures >r.1.hex
+says r.1.hex non-final
+mine $((lock - $(node getblockcount)))
+look
+stands 'can r.1'
+send r.1
+look
+grep '^paid ' now
+
+say "the payout is a coin of B's wallet, which pays on with it"
+txid=$(awk '$1 == "tx" && $2 == "r.1" { print $3 }' plan)
+paid=$(wallet b listunspent 1 9999999 "[\"$(awk '$1 == "pay" && $2 == "B" { print $3 }' deal_file)\"]")
+grep -q "\"txid\": \"$txid\"" <<<"$paid"
+grep -q '"spendable": true' <<<"$paid"
+wallet b -named sendtoaddress "address=$reward" amount=0.00110000 subtractfeefromamount=true >/dev/null
+say 'and a branch that was to be is closed'
+deal finish contract deal_file r.0 signatures secrets >r.0.hex
+says r.0.hex missing-inputs
+
+# ---- the third deal: a wallet's coin that a branch puts, and a deal that is called off
+
+mkdir "$folder/third"
+cd "$folder/third"
+say 'a third deal: Alice sells a key to Bob, who may add a coin of his wallet'
+lock=$(($(node getblockcount) + 20))
+sed "s/after [0-9]* /after $lock /" "$top/examples/deals/wallet_sale/contract.bitml" >contract
+signer secrets "$seed" key >secrets
+{
+    printf 'network rltc\npay Alice %s\npay Bob %s\n' "$(wallet a getnewaddress '' bech32)" "$(wallet b getnewaddress '' bech32)"
+    deal keys contract | signer keys "$seed" | grep '^key B:'
+    deal hashes contract secrets
+} >deal_file
+brings x a "$(wallet a getnewaddress '' bech32)" 0.00050000
+brings y b "$(of_two_keys)" 0.00100000
+brings z b "$(wallet b getnewaddress '' bech32)" 0.00030000
+mine 1
+first=$(node getblockcount)
+deal plan contract deal_file >plan
+deposits_are_there
+for party in Alice Bob; do
+    deal endorse contract deal_file $party >to_endorse
+    signer sign "$seed" $party endorse plan to_endorse
+done >signatures
+readiness 16 'init not endorsed r.1 Bob'
+
+say "Bob's wallet signs for its coin, and Alice looks whether the key of that signature is the coin's"
+wallet b walletprocesspsbt "$(deal psbt contract deal_file r.1)" true ALL | sed -n 's/.*"psbt": "\(.*\)",/\1/p' >>signatures
+readiness 16 'init may be signed once the unverified are checked'
+read -r _ _ _ _ _ key _ < <(deal held contract deal_file signatures | grep '^held r.1 1 W:z endorse ')
+shown=$(node deriveaddresses "$(node getdescriptorinfo "wpkh($key)" | sed -n 's/.*"descriptor": "\(.*\)",/\1/p')" | grep -o 'rltc[a-z0-9]*')
+grep -q "^deposit z .* $shown\$" deal_file
+for party in a b; do
+    wallet $party walletprocesspsbt "$(deal psbt contract deal_file init)" true ALL | sed -n 's/.*"psbt": "\(.*\)",/\1/p' >>signatures
+done
+look 2>/dev/null
+stands 'can init'
+stands 'unverified r.1 1 W:z endorse'
+send init
+
+say 'nobody puts the coin until Bob wants it'
+look secrets
+stands 'can r.0'
+stands 'needs signature r.1 0 B:0:r.1:Bob authorise'
+deal psbt contract deal_file >psbts
+signer sign "$seed" Bob authorise:r.1 plan psbts >>signatures
+look secrets
+stands 'can r.1'
+send r.1 secrets
+look
+stands 'can r.1.0'
+send r.1.0
+look
+grep '^paid ' now
+txid=$(awk '$1 == "tx" && $2 == "r.1.0" { print $3 }' plan)
+wallet a listunspent >unspent
+grep -q "$txid" unspent
+echo 'it is in the wallet of Alice'
+
+say 'the same deal with other coins is called off: Bob spends his coin elsewhere'
+grep -v '^deposit' deal_file >again
+mv again deal_file
+brings x a "$(wallet a getnewaddress '' bech32)" 0.00050000
+brings y b "$(wallet b getnewaddress '' bech32)" 0.00100000
+brings z b "$(wallet b getnewaddress '' bech32)" 0.00030000
+mine 1
+first=$(node getblockcount)
+deal plan contract deal_file >plan
+for party in Alice Bob; do
+    deal endorse contract deal_file $party >to_endorse
+    signer sign "$seed" $party endorse plan to_endorse
+done >signatures
+for call in 'b r.1' 'a init' 'b init'; do
+    wallet "${call% *}" walletprocesspsbt "$(deal psbt contract deal_file "${call#* }")" true ALL | sed -n 's/.*"psbt": "\(.*\)",/\1/p' >>signatures
+done
+look 2>/dev/null
+stands 'can init'
+read -r _ _ txid vout _ < <(grep '^deposit y' deal_file)
+coin="[{\"txid\": \"$txid\", \"vout\": $vout}]"
+wallet b lockunspent true "$coin" >/dev/null
+elsewhere=$(wallet b createrawtransaction "$coin" "{\"$(wallet b getnewaddress '' bech32)\": 0.00099}")
+node sendrawtransaction "$(wallet b signrawtransactionwithwallet "$elsewhere" | sed -n 's/.*"hex": "\(.*\)",/\1/p')" >/dev/null
+mine 1
+look 2>/dev/null
+stands 'needs deposit y'
+deal finish contract deal_file init signatures >init.hex
+says init.hex missing-inputs
 echo
-echo 'play_deal: the deal was played to its end'
+echo 'play_deal: the deals were played to their ends'

@@ -177,22 +177,33 @@ def with_signatures(line, signatures):
     return base64.b64encode(out).decode()
 
 
+def txid_of(line):
+    """The txid of the transaction that a line is of, as wallets show it."""
+    data = base64.b64decode(line)
+    size, at = compact(data, 7)
+    return sha(sha(data[at:at + size]))[::-1].hex()
+
+
 def sign_plan(seed, who, verb, plan, psbts):
     """Signs what the plan has for one participant under a verb."""
-    order, digests, wanted = [], {}, {}
+    whichs, digests, wanted = {}, {}, {}
     for words in (line.split() for line in open(plan)):
         if words[0] == 'tx':
-            order.append(words[1])
+            whichs.setdefault(words[2], []).append(words[1])
         elif words[0] == 'digest':
             digests[words[1], int(words[2])] = bytes.fromhex(words[3])
         elif words[0] == 'sign':
             which, k, label, when = words[1], int(words[2]), words[3], words[4]
-            if who in ('all', party_of(label)) and verb in ('all', when, '%s:%s' % (when, which)):
+            if (which, k) in digests and who in ('all', party_of(label)) and verb in ('all', when, '%s:%s' % (when, which)):
                 signature = sign(secret_of(seed, label), digests[which, k])
                 wanted.setdefault(which, {}).setdefault(k, []).append((key_of(seed, label), signature))
-    for which, line in zip(order, open(psbts)):
-        if which in wanted:
-            print(with_signatures(line, wanted[which]))
+    for line in open(psbts):
+        found = {}
+        for which in whichs.get(txid_of(line), ()):
+            for k, signatures in wanted.get(which, {}).items():
+                found.setdefault(k, []).extend(signatures)
+        if found:
+            print(with_signatures(line, found))
 
 
 def verify():

@@ -2,6 +2,7 @@
 import re
 
 from contract_places import TOKEN, Places
+from show_place import NOT_ASCII
 
 # The limits whose place is a byte; those of whole positions; the others tell a number.
 AT_A_BYTE = {
@@ -186,7 +187,7 @@ def why_no_token(text, place):
     if text[place] == ord('#') or text[place:place + 2] == b'//':
         return 'a contract has no comments: leave out the rest of the line'
     if text[place] >= 128:
-        return '%s is not ASCII: names have the letters A to Z and a to z, digits and _' % letter
+        return NOT_ASCII % letter
     return '%s begins no word of a contract' % (letter if letter.isprintable() else 'the byte %d' % text[place])
 
 
@@ -197,6 +198,8 @@ def why_no_contract(text, place):
     word = token.group().decode('ascii', 'replace') if token else None
     if word and word[0].isdigit() and text[place - 1:place] == b'0':
         return 'a number has no 0 before its first digit'
+    if grammar.wanted == ['@'] and re.match(rb'\d[.,]\d', text[place - 1:place + 2]):
+        return 'an amount is digits alone, in whole satoshi'
     for written in (grammar.party, word):
         if written and written.lower() in KEYWORDS and written not in KEYWORDS:
             return '`%s` has small letters: %s' % (written, written.lower())

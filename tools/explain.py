@@ -11,7 +11,7 @@ import re
 import sys
 
 from forms import kinds_of
-from show_place import show, show_word
+from show_place import NOT_ASCII, show, show_word
 
 
 BINARY = 'is in the binary form: base64 -w0 %s writes the one that is read'
@@ -64,7 +64,7 @@ def say_of_run(asked, limit, number):
     if text.lstrip()[:1] == b'{':
         say(name, 'looks like a contract: the run file is the first word')
     elif text.startswith(b'\xef\xbb\xbf'):
-        say(name, 'begins with the bytes EF BB BF, which some editors write and which are no part of the text')
+        return say(name, 'begins with the bytes EF BB BF, which some editors write and which are no part of the text')
     if limit:
         return say(name, LIMITS[limit])
     at, why = why_line(text, number)
@@ -85,10 +85,10 @@ def say_of_strategy(asked, limit, number):
     say(name, why)
 
 
-def paths_of(text):
-    """The paths of a contract that isn't refused, in the order of its text."""
+def places_of(text):
+    """Where the parts of a contract are that isn't refused; its paths are in the order of its text."""
     from contract_places import Places
-    return list(Places(text).branches)
+    return Places(text)
 
 
 def some(paths):
@@ -97,17 +97,19 @@ def some(paths):
 
 def say_of_path(asked, path):
     name, text = asked.file('CONTRACT')
-    say(name, 'no path %s; what it has: %s' % (path, some(['init', *paths_of(text)])))
+    say(name, 'no path %s; what it has: %s' % (path, some(['init', *places_of(text).branches])))
 
 
 def say_of_rules(asked):
-    """Which rules of a strategy are of paths that the contract hasn't: they never have an event."""
-    from strategy_words import absent_paths
+    """Which rules of a strategy are of paths or secrets that the contract hasn't: they never have an event."""
+    from strategy_words import absent
     name, rules = asked.file('RULES')
     contract, text = asked.file('CONTRACT')
-    paths = paths_of(text)
-    for number, path in absent_paths(rules, paths):
-        say('%s:%d' % (name, number), '%s has no path %s; what it has: %s' % (contract, path, some(paths)))
+    places = places_of(text)
+    secrets = [name.decode() for _, kind, _, name in places.entries if kind == b'secret']
+    for number, what, those in absent(rules, list(places.branches), secrets):
+        say('%s:%d' % (name, number), '%s has no %s; what it has: %s' % (contract, what, some(those) or 'none'))
+    say_of_lengths(asked)
 
 
 def say_of_psbt(asked, which, reason):
@@ -117,6 +119,8 @@ def say_of_psbt(asked, which, reason):
     name, text = asked.file('FILE', int(which))
     if text.startswith(b'psbt\xff'):
         why = BINARY % name
+    elif reason == 'base64' and not text.lstrip().startswith(b'cHNidP'):
+        why = 'is no partially signed transaction in Base64: one begins with cHNidP'
     elif len(text.split()) > 1 and all(word.startswith(b'cHNidP') for word in text.split()):
         why = 'has several of them; here one is read, and ./bitml deal takes a file with one in each line'
     elif re.search(rb'\s', text.removesuffix(b'\n')):
@@ -135,20 +139,21 @@ def say_of_deal(asked, kind, line, reason, other):
     """Shows the line at which a file of a deal was refused, with a caret under the word."""
     import deal_words
     name, text = asked.file(DEAL_FILES[kind])
-    bare = text.split(b'\n')[line - 1]
+    bare, below = [*text.split(b'\n'), b''][line - 1:line + 1]
     words = bare.split()
     if kind == 'signatures' and text.startswith(b'psbt\xff'):
         return say(name, BINARY % name)
     if kind == 'signatures':
-        at, why = 0, deal_words.why_signatures_line(bare, reason, other)
+        at, why = 0, deal_words.why_signatures_line(bare, reason, other, below)
     elif kind == 'deal':
-        at, why = deal_words.why_deal_line(words, reason, other)
+        at, why = deal_words.why_deal_line(words, reason, other, deal_words.network_of(text))
     elif kind == 'chain':
         at, why = deal_words.why_chain_line(words, reason, other)
     else:
         at, why = deal_words.why_secrets_line(words, reason, other)
     show_word(name, text, line, at, is_public=bare.startswith(b'cHNidP') or words[:1] in ([b'tx'], [b'height']))
-    say(name, why)
+    word = words[at] if at < len(words) else b''
+    say(name, NOT_ASCII % word.decode('utf-8', 'replace')[:40] if any(byte >= 128 for byte in word) else why)
 
 
 def say_of_whole_deal(asked, kind, reason, rest):
@@ -157,9 +162,9 @@ def say_of_whole_deal(asked, kind, reason, rest):
     if reason == 'size':
         say(name, 'has more than %s bytes' % deal_words.SIZES[kind])
     elif reason == 'missing':
-        say(name, 'no line begins with: %s' % rest)
+        say(name, deal_words.why_missing(rest, asked.file('CONTRACT')[1], asked.file(DEAL_FILES[kind])[1]))
     else:
-        say(name, "deposit %s is an output of the deal's own transactions" % rest)
+        say(name, deal_words.why_circular(rest, asked.file(DEAL_FILES[kind])[1]))
 
 
 def say_of_refused(_, kind, rest):

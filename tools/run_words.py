@@ -1,8 +1,11 @@
 """The word of a bad line of a run file at which it is likely wrong, where the words stop to have their shapes, and why."""
 import re
 
+from show_place import NOT_ASCII
+
 # What a word may be: a verb's other words, of which the last shape goes on as often as it fits.
 PARTY, NUMBER, OUTPUT, HEX, DIGEST = 'party', rb'0|[1-9]\d*', rb'#(0|[1-9]\d*)', rb'([0-9A-Fa-f]{2})+', rb'[0-9A-Fa-f]{64}'
+START = rb'init|%s' % OUTPUT
 KEYWORD = rb'(put|reveal|if|withdraw|split|after|secret|true|and|not|fee|Outside)\b'
 NAME, LABEL = rb'(?!%s)[A-Za-z]\w{0,31}' % KEYWORD, rb'[DB]:.*'
 HEADER = {b'party': (NAME,), b'honest': (PARTY,), b'secret': (PARTY, NAME, HEX), b'deposit': (PARTY, NUMBER)}
@@ -10,7 +13,7 @@ EVENTS = {
     b'advertise': (NUMBER, NAME + rb'=(%s)' % OUTPUT), b'commit': (NUMBER, PARTY, NAME + rb'=(%s)' % DIGEST),
     b'endorse': (NUMBER, PARTY), b'init': (NUMBER, PARTY), b'authorise': (PARTY, OUTPUT, NUMBER),
     b'reveal': (NUMBER, PARTY, NAME), b'post': (HEX,), b'sign': (PARTY, LABEL, DIGEST), b'append': (HEX,),
-    b'give': (PARTY, rb'->|%s|%s' % (OUTPUT, NAME)), b'fire': (rb'init|%s' % OUTPUT, NUMBER), b'mine': (rb'[1-9]\d*',),
+    b'give': (PARTY, rb'->|%s|%s' % (OUTPUT, NAME)), b'fire': (START, NUMBER), b'mine': (rb'[1-9]\d*',),
 }
 SHAPES = {**HEADER, **EVENTS}
 # Those whose last word may come any number of times, and so not at all.
@@ -26,6 +29,7 @@ LIMITS = {
 # What a shape is called where another word is in its place.
 CALLED = {
     NUMBER: 'a number is wanted here, as 0 or 12', OUTPUT: 'an output is wanted here, as #3', b'[1-9]\\d*': 'a number from 1 on is wanted here',
+    START: 'init or an output is wanted here, as #3, and then the number of the branch',
     LABEL: "a key's label is wanted here, as D:A or B:0:r.1:A", DIGEST: 'a digest is wanted here: 64 hexadecimal digits',
 }
 
@@ -45,7 +49,7 @@ def why_not(word, shape):
     if word[:1] == b'#' and shape not in (OUTPUT,) and not re.match(rb'#\d', word):
         return 'a run file has no comments: leave out the rest of the line'
     if any(byte >= 128 for byte in word):
-        return '%s is not ASCII: names have the letters A to Z and a to z, digits and _' % written(word)
+        return NOT_ASCII % written(word)
     if shape == HEX and word == b'HEX':
         return "HEX stands for the secret's bytes: 16 to 520 of them, two hexadecimal digits each"
     if shape in (HEX, DIGEST) and re.fullmatch(rb'0[xX][0-9A-Fa-f]*', word):
@@ -56,7 +60,7 @@ def why_not(word, shape):
         return 'hexadecimal digits are wanted here, two for each byte'
     if shape == NAME or shape not in CALLED and re.match(rb'\w+$', word) and shape in (NAME,):
         return '%s is a keyword and no name' % written(word) if re.fullmatch(KEYWORD, word) else 'a name is wanted here: a letter, then up to 31 letters, digits and _'
-    if re.fullmatch(rb'#?0\d+', word):
+    if shape not in (LABEL, DIGEST) and re.fullmatch(rb'#?0\d+', word):
         return 'a number has no 0 before its first digit'
     if shape in CALLED:
         return CALLED[shape]

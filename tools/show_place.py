@@ -3,17 +3,20 @@ import re
 import unicodedata
 
 # The verbs of run files and deal files whose words everybody may see, and those of lines that hold a secret.
-PUBLIC = 'party honest deposit advertise commit endorse init authorise reveal sign append give fire mine key hash'.split()
+PUBLIC = 'party honest deposit advertise commit endorse init authorise reveal sign append give fire mine key hash network pay'.split()
 SECRET = 'secret post'.split()
 WIDTH = 100
+# What is said of a word that has other letters.
+NOT_ASCII = '%s is not ASCII: names have the letters A to Z and a to z, digits and _'
 
 
 def masked(text):
-    """A line without what may be a secret: long words in a line of secrets, and elsewhere those that look like hexadecimal."""
+    """A line without what may be a secret: long words in a line of secrets, and elsewhere those that look like hexadecimal. One of digits
+    alone that is no longer than a number may be is a number."""
     verb = text.split()[:1]
     if verb and verb[0] in PUBLIC:
         return text
-    long = '[0-9A-Za-z]{16,}' if verb and verb[0] in SECRET else r'(?=[A-Za-z]*\d)[0-9A-Za-z]{16,}'
+    long = '[0-9A-Za-z]{16,}' if verb and verb[0] in SECRET else r'(?<![0-9A-Za-z])(?!\d{1,30}(?![0-9A-Za-z]))(?=[A-Za-z]*\d)[0-9A-Za-z]{16,}'
     return re.sub(long, lambda match: '.' * len(match.group()), text)
 
 

@@ -1,6 +1,8 @@
 """The word of a strategy's rule that is wrong, and why."""
 import re
 
+from show_place import NOT_ASCII
+
 NUMBER = rb'0|[1-9]\d*'
 PATH = rb'r([.](0|[1-9]\d*)|/(0|[1-9]\d*))*'
 # What comes behind a verb.
@@ -14,6 +16,8 @@ def fault(words, run):
     for number, word in enumerate(words):
         if word[:1] == b'#':
             return number, 'a strategy has no comments'
+        if any(byte >= 128 for byte in word):
+            return number, NOT_ASCII % word.decode('utf-8', 'replace')
     if [b'honest', words[0]] not in header:
         party = words[0].decode('utf-8', 'replace')
         return 0, '%s is not declared honest in the run file' % party if [b'party', words[0]] in header else 'no party %s' % party
@@ -30,11 +34,13 @@ def fault(words, run):
     return (2 + len(shapes), 'the line has a word too many') if len(words) > 2 + len(shapes) else (2, 'the contract of the command is 0')
 
 
-def absent_paths(rules, paths):
-    """Each rule, by its line and a word, of a path that the contract hasn't."""
+def absent(rules, paths, secrets):
+    """Each rule of a path or a secret that the contract hasn't: its line, what it is of, and what there is."""
     for number, line in enumerate(rules.split(b'\n'), 1):
         words = line.split()
-        if len(words) == 4 and words[1] in (b'authorise', b'fire') and words[3] != b'init':
-            path = words[3].decode('ascii', 'replace')
-            if path not in paths:
-                yield number, path
+        if len(words) != 4 or words[1:] == [b'fire', b'0', b'init']:
+            continue
+        kind, those = ('secret', secrets) if words[1] == b'reveal' else ('path', paths)
+        name = words[3].decode('ascii', 'replace')
+        if name not in those:
+            yield number, '%s %s' % (kind, name), those

@@ -1,3 +1,7 @@
+mod Causes
+mod Few
+mod Headlines
 mod Left
+mod Pages
 mod Pictures
 mod Taken

@@ -1,17 +1,16 @@
 -- What is answered is a picture in which nothing stands twice.
-use Rattle.std.proofs.Common.{◌≡◌, ◌<◌, ◌^◌, ℕ, List, [], ◌∷◌, length, Option, Some, None, Ok, sym, subst, inl, inr, arith}
+use Rattle.std.proofs.Common.{◌≡◌, ◌<◌, ◌^◌, ℕ, List, [], ◌∷◌, length, Some, Ok, sym, subst, arith}
 use Rattle.spec_terms.specs.Advert.{Advert}
 use Rattle.spec_run.specs.declared.event.Run.{Run}
 use Rattle.spec_run.specs.Setup.{Setup}
 use Rattle.spec_text.specs.Played.{entries, ending}
 use Rattle.spec_text.specs.Refusals.{contract_of, run_of}
-use Rattle.spec_tool.specs.Reads.{Read, Text, texts_read}
-use Rattle.spec_tool.specs.Commands.{Command, files_of, setup_of}
-use Rattle.spec_picture.specs.Drawing.{AnswersArePictures, drawn_of, last_of, draw_texts, read_drawn, title_of, drawn_answer}
+use Rattle.spec_tool.specs.Reads.{Text}
+use Rattle.spec_tool.specs.Commands.{setup_of}
+use Rattle.spec_picture.specs.Drawing.{AnswersArePictures, drawn_of, last_of, draw_texts}
 use Rattle.spec_picture.specs.Statements.{DrawsOnce}
-use Rattle.tool_shell.specs.Around.{Around}
 use Rattle.tool_command.proofs.FewEvents.{few_events}
-use Rattle.bitml_draw.specs.Drawn.{AnswersOrGivesUp, DrawsOrGivesUp, ShowsRun, ShowsTaken, ShowsTexts, Shows}
+use Rattle.bitml_draw.specs.Drawn.{ShowsRun, ShowsTaken}
 use Rattle.bitml_draw.proofs.Taken.{well_formed, few_drawn}
 
 module _ (pictures : AnswersArePictures) (once : DrawsOnce) (hash : List ℕ → List ℕ) where
@@ -28,20 +27,7 @@ module _ (pictures : AnswersArePictures) (once : DrawsOnce) (hash : List ℕ →
         once = once advert rows (last_of (ending s run.events)) (well_formed contract_text advert c) few;
       }
 
-  shows_taken : (title : List ℕ) (texts : List Text) → ShowsTaken hash texts (draw_texts title hash texts)
+  pub shows_taken : (title : List ℕ) (texts : List Text) → ShowsTaken hash texts (draw_texts title hash texts)
   shows_taken title texts run_text contract_text run advert same r c =
       subst (λ (ts : List Text). ShowsRun (setup_of hash run (advert ∷ [])) run.events advert (draw_texts title hash ts).text) (sym same)
       (shows_run title run_text contract_text run advert r c)
-
-  shows_texts : (title : List ℕ) (o : Option (List Text)) → ShowsTexts hash o (read_drawn title hash o)
-  shows_texts title None = tt
-  shows_texts title (Some texts) = shows_taken title texts
-
-  shows : (command : Option Command) (reads : List Read) → Shows hash command reads (drawn_answer hash command reads)
-  shows None reads = tt
-  shows (Some command) reads = shows_texts (title_of (files_of command)) (texts_read reads)
-
-  pub draws : (command : Option Command) (before now : Around) (status : ℕ) → AnswersOrGivesUp hash command before now status
-      → DrawsOrGivesUp hash command before now status
-  draws command before now status (inl a) = inl (record { answers = a; shows = shows command a.reads })
-  draws command before now status (inr gives_up) = inr gives_up

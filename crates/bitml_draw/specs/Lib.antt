@@ -1,1 +1,4 @@
+pub mod DrawAnswer
 pub mod Drawn
+pub mod PageCauses
+pub mod PageShown

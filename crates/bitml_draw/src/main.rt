@@ -1,9 +1,12 @@
-//! The program behind `bitml draw`, which draws a contract and a run as SVG. Its call `draw_tool` says that status and
-//! text are the defined ones, and that the text is a picture of that run.
+//! The program behind `bitml draw`, which draws a contract and a run as SVG, or writes the page of a run with its contracts or of a
+//! contract. Its call `draw_tool` says that status and text are the defined ones, that an SVG is a picture of that run, and that a page
+//! has the theorems of `theory_page`.
 #![tactic(auto)]
 
+mod call;
 mod playing;
 mod replying;
+mod theorem;
 mod tool;
 
 use bm_hash::Sha;
@@ -22,7 +25,7 @@ fn words(rt: &HostRuntime) -> io::Result<Vec<String>> {
     Ok(words)
 }
 
-/// The status is that of the picture, and 12 where the words can't be had.
+/// The status is that of the answer, and 12 where the words can't be had.
 fn main(rt: HostRuntime) -> ExitCode {
     let Ok(words) = words(&rt) else {
         return ExitCode::from(12);

@@ -1,5 +1,5 @@
 -- What is answered draws what is asked for.
-use Rattle.std.proofs.Common.{◌≡◌, ℕ, List, Option, Some, None, refl, inl, inr}
+use Rattle.std.proofs.Common.{ℕ, List, Option, Some, None, refl, inl, inr}
 use Rattle.spec_run.specs.Conditions.{HashesBytes}
 use Rattle.spec_tool.specs.Reads.{Read, Text, texts_read}
 use Rattle.spec_picture.specs.Drawing.{AnswersArePictures}

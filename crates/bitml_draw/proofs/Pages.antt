@@ -1,9 +1,7 @@
 -- What is written behind `--page` shows what the theorems on pages say.
-use Rattle.std.proofs.Common.{◌≡◌, ℕ, ◌+◌, List, [], ◌∷◌, length, map, None, Some, Ok, sym, ap, subst, refl, ◌∙◌}
-use Rattle.spec_terms.specs.Advert.{Advert}
+use Rattle.std.proofs.Common.{◌≡◌, ℕ, ◌+◌, List, [], ◌∷◌, map, None, Some, sym, ap, subst, refl, ◌∙◌}
 use Rattle.spec_run.specs.Conditions.{HashesBytes}
 use Rattle.spec_run.specs.declared.event.Event.{Event}
-use Rattle.spec_run.specs.declared.event.Run.{Run}
 use Rattle.spec_run.specs.Event.{opening_collision}
 use Rattle.spec_run.specs.Setup.{Setup}
 use Rattle.spec_run.specs.Statements.{IsRun}

@@ -1,6 +1,6 @@
 -- What is known of a page.
-use Rattle.std.specs.Prelude.{◌≡◌, ℕ, ◌≤◌, List, [], ◌∷◌, length, map, Option, Some, None, Ok}
-use Rattle.std.specs.List.{AllByRecursion, Contains}
+use Rattle.std.specs.Prelude.{◌≡◌, ℕ, ◌≤◌, List, [], ◌∷◌, length, map, Some, None, Ok}
+use Rattle.std.specs.List.{AllByRecursion}
 use Rattle.spec_data.specs.Ranges.{most_contracts}
 use Rattle.spec_terms.specs.Advert.{Advert}
 use Rattle.spec_terms.specs.Order.{branch_paths}

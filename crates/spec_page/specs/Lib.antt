@@ -17,4 +17,10 @@ pub mod Cells
 pub mod ContractPart
 pub mod RunPart
 pub mod Page
+pub mod SvgItems
+pub mod SvgContract
+pub mod SvgRun
+pub mod SvgLayout
+pub mod SvgStyle
+pub mod Svg
 pub mod Statements

@@ -1,4 +1,4 @@
--- The scripts of positions are of bytes, where the committed digests are.
+-- The scripts of positions are of bytes, where the committed digests are: first by what a branch asks for, whatever its keys are.
 use Rattle.std.proofs.Common.{◌≡◌, ℕ, zero, suc, ◌+◌, ◌/◌, ◌%◌, ◌<◌, ◌≤◌, List, [], ◌∷◌, length, map, Bool, true, false, refl, arith, lit<}
 use Rattle.std.specs.Prelude.{pos, replicate, nat_le, nat_lt, ◌==◌, if◌then◌else◌}
 use Rattle.std.specs.List.{list_all, AllByRecursion}
@@ -28,11 +28,11 @@ use Rattle.theory_script.proofs.Scripts.Opened.{no_limit_met}
 use Rattle.theory_psbt_listed.proofs.Digests.{BytesIn, all_joined, digest_bytes}
 
 -- what the operation pushes is of bytes, or its code is a byte
-abbrev PushesBytes : Op → Type 0
+abbrev pub PushesBytes : Op → Type 0
 PushesBytes (Push item) = IsBytes item
 PushesBytes (Code c) = c < 256
 
-abbrev AllPush : List Op → Type 0
+abbrev pub AllPush : List Op → Type 0
 AllPush ops = AllByRecursion PushesBytes ops
 
 -- ---- they are written as bytes
@@ -60,7 +60,7 @@ op_encoded : (op : Op) → PushesBytes op → is_short_push op ≡ true → IsBy
 op_encoded (Code c) h s = bytes_cons c [] h bytes_none
 op_encoded (Push item) h s = pushed item h (leb-true (length item) 520 s)
 
-encoded : (ops : List Op) → AllPush ops → list_all is_short_push ops ≡ true → IsBytes (encode ops)
+pub encoded : (ops : List Op) → AllPush ops → list_all is_short_push ops ≡ true → IsBytes (encode ops)
 encoded [] h s = bytes_none
 encoded (op ∷ ops) h s =
     let p = and_parts (is_short_push op) (list_all is_short_push ops) s in
@@ -124,7 +124,7 @@ test_pushes names d (less e f) =
 
 -- ---- branches
 
-abbrev AllBytes : List (List ℕ) → Type 0
+abbrev pub AllBytes : List (List ℕ) → Type 0
 AllBytes xs = AllByRecursion IsBytes xs
 
 push_521_bytes : IsBytes (9 ∷ 2 ∷ [])
@@ -156,16 +156,16 @@ signed_push (key ∷ []) h = (h.0, (lit< tt, tt))
 signed_push (key ∷ (next ∷ keys)) h = (h.0, (lit< tt, signed_push (next ∷ keys) h.1))
 
 -- what a branch asks for is of bytes
-record IsOfBytes (d : Demands) : Type 0 where
-  digests : AllBytes d.digests
-  keys : AllBytes d.keys
+pub record IsOfBytes (d : Demands) : Type 0 where
+  pub digests : AllBytes d.digests
+  pub keys : AllBytes d.keys
 
 branch_push : (d : Demands) → IsOfBytes d → AllPush (branch_ops d)
 branch_push d h =
     all_joined PushesBytes (secrets_ops d.names d.digests d.test) (signed_ops d.keys) (secrets_push d.names d.digests d.test h.digests)
     (signed_push d.keys h.keys)
 
-output_push : (ds : List Demands) → AllByRecursion IsOfBytes ds → AllPush (output_ops ds)
+pub output_push : (ds : List Demands) → AllByRecursion IsOfBytes ds → AllPush (output_ops ds)
 output_push [] h = tt
 output_push (d ∷ []) h = branch_push d h.0
 output_push (d ∷ (next ∷ ds)) h =
@@ -178,7 +178,7 @@ digests_bytes : (hashes : List (List ℕ × List ℕ)) (names : List (List ℕ))
 digests_bytes hashes [] h = tt
 digests_bytes hashes (n ∷ names) h = (digest_bytes hashes n h, digests_bytes hashes names h)
 
-demands_bytes : (keys : ℕ → List (List ℕ)) (hashes : List (List ℕ × List ℕ)) (i : ℕ) (bs : List term.Guarded)
+pub demands_bytes : (keys : ℕ → List (List ℕ)) (hashes : List (List ℕ × List ℕ)) (i : ℕ) (bs : List term.Guarded)
     → ((j : ℕ) → AllBytes (keys j)) → BytesIn hashes → AllByRecursion IsOfBytes (demands_from keys hashes i bs)
 demands_bytes keys hashes i [] k h = tt
 demands_bytes keys hashes i (b ∷ bs) k h = (

@@ -5,5 +5,5 @@ mod Bounded
 mod Adding
 mod Fired
 mod WholeRun
-mod Sized
+pub mod Sized
 pub mod ByPosition

@@ -19,20 +19,20 @@ use Rattle.theory_weights.proofs.Full.{blank}
 -- ---- items
 
 -- the bytes of items, each with its length
-abbrev all_bytes : List (List ℕ) → ℕ
+abbrev pub all_bytes : List (List ℕ) → ℕ
 all_bytes xs = length (flat_map sized xs)
 
 sized_is : (x : List ℕ) → length (sized x) ≡ item_size (length x)
 sized_is x = length-append (compact (length x)) x
 
-bytes_cons : (x : List ℕ) (xs : List (List ℕ)) → all_bytes (x ∷ xs) ≡ item_size (length x) + all_bytes xs
+pub bytes_cons : (x : List ℕ) (xs : List (List ℕ)) → all_bytes (x ∷ xs) ≡ item_size (length x) + all_bytes xs
 bytes_cons x xs =
     let a = ap length (flat_map-cons sized x xs) in
     let b = length-append (sized x) (flat_map sized xs) in
     let c = sized_is x in
     omega (arith, a, b, c)
 
-bytes_append : (xs ys : List (List ℕ)) → all_bytes (xs ++ ys) ≡ all_bytes xs + all_bytes ys
+pub bytes_append : (xs ys : List (List ℕ)) → all_bytes (xs ++ ys) ≡ all_bytes xs + all_bytes ys
 bytes_append [] ys = omega arith
 bytes_append (x ∷ xs) ys =
     let a = bytes_cons x (xs ++ ys) in
@@ -40,7 +40,7 @@ bytes_append (x ∷ xs) ys =
     let c = bytes_append xs ys in
     omega (arith, a, b, c)
 
-bytes_reversed : (xs : List (List ℕ)) → all_bytes (reverse xs) ≡ all_bytes xs
+pub bytes_reversed : (xs : List (List ℕ)) → all_bytes (reverse xs) ≡ all_bytes xs
 bytes_reversed [] = refl
 bytes_reversed (x ∷ xs) =
     let a = ap all_bytes (reverse-append (x ∷ []) xs) in
@@ -50,7 +50,7 @@ bytes_reversed (x ∷ xs) =
     let e = bytes_cons x xs in
     omega (arith, a, b, c, d, e)
 
-bytes_replicated : (n : ℕ) (x : List ℕ) → all_bytes (replicate n x) ≡ n * item_size (length x)
+pub bytes_replicated : (n : ℕ) (x : List ℕ) → all_bytes (replicate n x) ≡ n * item_size (length x)
 bytes_replicated zero x = omega arith
 bytes_replicated (suc n) x =
     let a = bytes_cons x (replicate n x) in
@@ -75,7 +75,7 @@ signature_size_is : item_size 66 ≡ signature_bytes
 unfolding compact
 signature_size_is = refl
 
-selectors_counted : (i n : ℕ) → length (selectors i n) ≡ selector_count i n
+pub selectors_counted : (i n : ℕ) → length (selectors i n) ≡ selector_count i n
 selectors_counted i n = by_test (nat_lt (i + 1) n)
   where
     by_test : (b : Bool) → length (if b then replicate {A = List ℕ} i [] ++ (1 ∷ []) ∷ [] else replicate i []) ≡ (if b then i + 1 else i)
@@ -85,11 +85,11 @@ selectors_counted i n = by_test (nat_lt (i + 1) n)
         omega (arith, a, b)
     by_test false = length-replicate {A = List ℕ} i []
 
-selectors_sized : (i n : ℕ) → all_bytes (selectors i n) ≡ selector_bytes i n
+pub selectors_sized : (i n : ℕ) → all_bytes (selectors i n) ≡ selector_bytes i n
 selectors_sized i n = by_test (nat_lt (i + 1) n)
   where
     empties : all_bytes (replicate i []) ≡ i
-    empties = let a = bytes_replicated i [] in let b = empty_size in bytes_replicated i [] ∙ ap (λ k. i * k) empty_size ∙ omega arith
+    empties = bytes_replicated i [] ∙ ap (λ k. i * k) empty_size ∙ omega arith
 
     by_test : (b : Bool) → all_bytes (if b then replicate i [] ++ (1 ∷ []) ∷ [] else replicate i []) ≡ (if b then i + 2 else i)
     by_test true =

@@ -1,10 +1,10 @@
 -- How many bytes the parts of a finished transaction have.
-use Rattle.std.proofs.Common.{◌≡◌, ℕ, zero, suc, ◌+◌, ◌*◌, ◌<◌, ◌≤◌, ◌^◌, List, [], ◌∷◌, ◌++◌, length, map, Bool, true, false, Option, Some, None}
-use Rattle.std.proofs.Common.{refl, sym, ap, ◌∙◌, subst, arith, length-append}
+use Rattle.std.proofs.Common.{◌≡◌, ℕ, zero, suc, ◌+◌, ◌*◌, ◌<◌, ◌≤◌, ◌^◌, List, [], ◌∷◌, ◌++◌, length, map, Bool, true, false}
+use Rattle.std.proofs.Common.{refl, ap, ◌∙◌, arith, length-append}
 use Rattle.std.specs.Prelude.{nat_lt, reverse, replicate, if◌then◌else◌}
 use Rattle.std.specs.List.{flat_map, AllByRecursion}
 use Rattle.std.proofs.lemmas.Bool.Decides.{nat_tests}
-use Rattle.std.proofs.lemmas.List.{length-reverse, reverse-append}
+use Rattle.std.proofs.lemmas.List.{length-reverse}
 use Rattle.std.proofs.lemmas.List.Concat.{flat_map-cons}
 use Rattle.spec_bitcoin.specs.declared.tx.TxIn.{TxIn}
 use Rattle.spec_bitcoin.specs.declared.tx.TxOut.{TxOut}
@@ -13,10 +13,11 @@ use Rattle.spec_bitcoin.specs.Spelling.{word, long_word, compact, sized, place_b
 use Rattle.spec_bitcoin.specs.Spelling.{witness_bytes, witnesses_bytes, is_marked, stripped, marked}
 use Rattle.spec_compiler.specs.declared.unsigned.Spent.{Spent}
 use Rattle.spec_compiler.specs.Keyed.Transactions.{input_of}
-use Rattle.spec_compiler.specs.Witness.{selectors, witness_stack, witness_of}
+use Rattle.spec_compiler.specs.Witness.{selectors, witness_of}
 use Rattle.spec_run.specs.Firing.{witnessed, with_witnesses}
 use Rattle.spec_tool.specs.Weights.{weight_of}
 use Rattle.theory_bitcoin.proofs.Formats.{wide32, wide64}
+use Rattle.theory_weights.proofs.Sized.{all_bytes, bytes_append, bytes_reversed}
 use Rattle.theory_weights.proofs.Weighing.{count_is, stripped_same, marked_size}
 use Rattle.theory_deal.proofs.Ledger.Verdicts.{as_they_are}
 use Rattle.theory_deal.proofs.Widths.Places.{IsSpendable}
@@ -46,29 +47,8 @@ pub sized_few : (x : List ℕ) → length x ≤ 65535 → length (sized x) ≤ 3
 sized_few x h = let a = length-append (compact (length x)) x in let b = compact_few (length x) (omega (arith, h)) in omega (arith, a, b)
 
 -- the bytes of items, each with its length
-abbrev pub all_bytes : List (List ℕ) → ℕ
-all_bytes xs = length (flat_map sized xs)
-
 pub bytes_cons : (x : List ℕ) (xs : List (List ℕ)) → all_bytes (x ∷ xs) ≡ length (sized x) + all_bytes xs
 bytes_cons x xs = ap length (flat_map-cons sized x xs) ∙ length-append (sized x) (flat_map sized xs)
-
-bytes_append : (xs ys : List (List ℕ)) → all_bytes (xs ++ ys) ≡ all_bytes xs + all_bytes ys
-bytes_append [] ys = omega arith
-bytes_append (x ∷ xs) ys =
-    let a = bytes_cons x (xs ++ ys) in
-    let b = bytes_cons x xs in
-    let c = bytes_append xs ys in
-    omega (arith, a, b, c)
-
-bytes_reversed : (xs : List (List ℕ)) → all_bytes (reverse xs) ≡ all_bytes xs
-bytes_reversed [] = refl
-bytes_reversed (x ∷ xs) =
-    let a = ap all_bytes (reverse-append (x ∷ []) xs) in
-    let b = bytes_append (reverse xs) (x ∷ []) in
-    let c = bytes_reversed xs in
-    let d = bytes_cons x [] in
-    let e = bytes_cons x xs in
-    omega (arith, a, b, c, d, e)
 
 -- items of which none has more
 next_of : (n k : ℕ) → suc n * k ≡ k + n * k

@@ -16,7 +16,7 @@ pub(crate) fn style_0() -> &'static [u8]
 *{box-sizing:border-box}\
 body{margin:0 auto;max-width:1180px;padding:20px;font:14px/1.45 system-ui,'DejaVu Sans',sans-serif;color:var(--fg);\
 background:var(--bg)}body:has(.wide){max-width:1700px}\
-h1{font-size:19px;margin:0;overflow-wrap:anywhere}h1 small{font-weight:normal;color:var(--mut);font-size:13px;margin-left:8px}\
+h1{font-size:19px;margin:0;overflow-wrap:anywhere}h1 small{font-weight:normal;white-space:nowrap;color:var(--mut);font-size:13px;margin-left:8px}\
 .p0{--c:var(--c0)}.p1{--c:var(--c1)}.p2{--c:var(--c2)}.p3{--c:var(--c3)}.p4{--c:var(--c4)}.p5{--c:var(--c5)}.p6{--c:var(--c6)}\
 .bar{display:flex;height:26px;border:1px solid var(--edge);border-radius:6px;overflow:hidden;margin:14px 0 4px;"
 }
@@ -26,8 +26,8 @@ pub(crate) fn style_1() -> &'static [u8]
 {
     b"background:var(--edge)}\
 .bar div{flex:0 1 0;display:flex;align-items:center;justify-content:center;min-width:0;overflow:hidden;white-space:nowrap;\
-font-size:12px;background:var(--c);color:var(--on);box-shadow:inset -1px 0 var(--edge);container-type:inline-size}\
-.bar .in{--c:var(--mut)}.bar .out,.bar .fee{background:var(--bg);color:var(--fg)}\
+font-size:12px;background:var(--c);color:var(--on);box-shadow:inset -1px 0 var(--bg);container-type:inline-size}\
+.bar .in{--c:var(--mut)}.bar .out,.bar .fee{background:var(--bg);color:var(--fg);box-shadow:inset -1px 0 var(--edge)}\
 @container(max-width:64px){.bar span{display:none}}\
 .ctl{display:none;position:sticky;top:0;z-index:2;gap:12px;align-items:center;padding:8px 0;background:var(--bg);\
 border-bottom:1px solid var(--line)}.live .ctl{display:flex}\
@@ -45,30 +45,30 @@ pub(crate) fn style_2() -> &'static [u8]
 td{padding:3px 8px;border-bottom:1px solid var(--line)}\
 .path{width:70px;max-width:110px;overflow:hidden;text-overflow:ellipsis;direction:rtl;text-align:left;white-space:nowrap;\
 color:var(--mut);font:12px ui-monospace,'DejaVu Sans Mono',monospace}\
-.what{min-width:260px;overflow-wrap:anywhere}.sum{width:96px;text-align:right;white-space:nowrap}\
+.what{min-width:260px;overflow-wrap:anywhere}.sum{width:96px;text-align:right;white-space:nowrap}.few .sum i:last-child{margin-right:-7px}\
 .d1 .what{padding-left:24px}.d2 .what{padding-left:40px}.d3 .what{padding-left:56px}.d4 .what{padding-left:72px}\
 .d5 .what{padding-left:88px}.d6 .what{padding-left:104px}.d7 .what{padding-left:120px}.d8 .what{padding-left:136px}\
 i{display:inline-block;padding:1px 6px;font-style:normal;border:1px solid transparent;border-radius:5px}\
 .chip{display:inline-block;border:1px dashed var(--edge);border-radius:10px;padding:0 8px;font-size:12.5px}\
-.chip.met{border-style:solid;border-color:var(--ok);background:var(--okbg)}.chip.met:before{content:'\\2713 ';color:var(--ok)}\
+.chip.met{border-style:solid;border-color:var(--ok);background:var(--okbg)}.chip.met:before{content:'\\2713\\a0';color:var(--ok)}\
 .fork td{padding-top:6px;border-bottom:0;color:var(--mut)}.part,.any,.note,.brings{color:var(--mut)}\
-.taken{background:var(--okbg)}i.taken{border-color:var(--ok)}i.taken:before{content:'\\2713 '}.taken .path{color:var(--ok);"
+.taken{background:var(--okbg)}i.taken{border-color:var(--ok)}i.taken:before{content:'\\2713\\a0'}.taken .path{color:var(--ok);"
 }
 
 pub(crate) fn style_3() -> &'static [u8]
     ensures { result.now ≡ style.style_3 }
 {
-    b"font-weight:bold}.taken .path bdi:before{content:'\\2713 '}\
+    b"font-weight:bold}.taken .path bdi:before{content:'\\2713\\a0'}\
 .offered{background:var(--nowbg)}i.offered{border:2px solid var(--now)}.offered .path{color:var(--now);font-weight:bold}\
-.offered .path bdi:before{content:'\\25B8 '}\
-.gone{color:var(--mut)}.gone .path,.gone .chip,.chip.gone,i.gone{text-decoration:line-through}\
+.offered .path bdi:before{content:'\\25B8\\a0'}\
+.gone{color:var(--mut)}.gone .path,.chip.gone,i.gone{text-decoration:line-through}\
 .ev{cursor:pointer}.ev.blocks{background:var(--soft)}.ev.refused .what{color:var(--mut)}.ev em{color:var(--bad);\
 font-style:normal}.ev.accepted .path{color:var(--ok);font-weight:bold}\
 .ev.later td{color:var(--mut)}.ev.later .sum{visibility:hidden}.ev.here{outline:2px solid var(--now);outline-offset:-2px}\
 .dot:before{content:'\\25CF';margin-left:4px;font-size:10px;color:var(--c)}\
 .wide th{padding:14px 2px 5px;font-size:12px}.wide th.name{max-width:84px}.wide td{padding:3px 2px}.wide .sum{width:auto;\
-font-size:11.5px}.wide .what{min-width:200px}.wide i{padding:1px 2px}.turned th.name{writing-mode:vertical-rl;text-align:left;\
-vertical-align:bottom;max-width:none;white-space:nowrap}\
+font-size:11.5px}.wide .what{min-width:140px}.wide th:nth-child(2){white-space:normal}.wide i{padding:1px 2px}\
+.turned th.name{writing-mode:vertical-rl;text-align:left;vertical-align:bottom;padding-left:calc(100% - 20px);max-width:none;white-space:nowrap}\
 table .total td{border-top:2px solid var(--edge);border-bottom:0;font-weight:600}summary{margin-top:14px;cursor:pointer;"
 }
 
@@ -79,10 +79,10 @@ pub(crate) fn style_4() -> &'static [u8]
 @media(max-width:640px){body{padding:12px}h1 small{display:block;margin:0}table,tbody{display:block}th,.wide th{padding:5px 0;\
 border:0}th:empty{display:none}th.name,.wide th.name,.turned th.name{max-width:none;writing-mode:horizontal-tb}\
 .wide .what{min-width:0}.scroll{overflow-x:visible}\
-tr{display:flex;flex-wrap:wrap;align-items:baseline;gap:2px 8px;padding:3px 6px;border-bottom:1px solid var(--line)}\
-.head{gap:0 10px;border-bottom:2px solid var(--edge)}td,.wide td{padding:0;border:0}td:empty{display:none}.path{width:auto;\
-min-width:26px}.what{min-width:0;flex:1 1 70%}.sum,.wide .sum{width:auto;font-size:14px}.sum:before{content:attr(data-of) ' ';\
-font-size:12px;color:var(--c)}.ev.later .sum{display:none}.sum i{padding:0 4px}table .total td{border:0}\
+tr{display:flex;flex-wrap:wrap;justify-content:flex-end;align-items:baseline;gap:2px 8px;padding:3px 6px;border-bottom:1px solid var(--line)}\
+.head th:nth-child(n+3){display:none}.head{gap:0 10px;border-bottom:2px solid var(--edge)}td,.wide td{padding:0;border:0}td:empty{display:none}\
+.path{width:auto;min-width:26px}.what,th:nth-child(2){min-width:0;flex:1 1 70%}.sum,.wide .sum{width:auto;font-size:14px}.sum:before{content:attr(data-of) ' ';\
+font-size:12px;color:var(--c)}.ev.later .sum{display:none}.sum i{padding:0 4px}.few .sum i:last-child{margin-right:0}table .total td{border:0}\
 .total{border-top:2px solid var(--edge)}\
 .d1 .what{padding-left:8px}.d2 .what{padding-left:16px}.d3 .what{padding-left:24px}.d4 .what{padding-left:32px}\
 .d5 .what{padding-left:40px}.d6 .what{padding-left:48px}.d7 .what{padding-left:56px}.d8 .what{padding-left:64px}}"

@@ -45,7 +45,7 @@ fn put_mark(out: &mut Vec<u8>, own: bool) -> Result<(), OutOfMemory>
     if !own {
         return Ok(());
     }
-    put(out, b"<span class=\"dot\"></span>")
+    put(out, b"<span class=\"dot\" title=\"acts\"></span>")
 }
 
 fn is_actor(actor: &Option<Name>, party: &Name) -> bool

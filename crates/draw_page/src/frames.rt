@@ -53,6 +53,8 @@ fn put_bar_piece<'a>(
         &[
             Piece::Mark(b"<div class=\""),
             Piece::Said(look),
+            Piece::Mark(b"\" title=\""),
+            Piece::Said(name),
             Piece::Mark(b"\" style=\"flex-grow:"),
             Piece::Number(value),
             Piece::Mark(b"\"><span>"),

@@ -81,10 +81,10 @@ before_table =
     codes "</style>\n" ∷
     codes "</head>\n" ∷
     codes "<body><h1>guessed<small>6 satoshi in deposits</small></h1>\n" ∷
-    codes "<div class=\"bar\" title=\"where the money is\"><div class=\"p0\" style=\"flex-grow:0\"><span>A</span>" ∷
-    codes "</div><div class=\"p1\" style=\"flex-grow:5\"><span>B</span></div><div class=\"in\" " ∷
-    codes "style=\"flex-grow:1\"><span>contract</span></div><div class=\"out\" style=\"flex-grow:0\">" ∷
-    codes "<span>elsewhere</span></div><div class=\"fee\" style=\"flex-grow:0\"><span>fees</span></div></div>\n" ∷
+    codes "<div class=\"bar\" title=\"where the money is\"><div class=\"p0\" title=\"A\" style=\"flex-grow:0\"><span>A</span>" ∷
+    codes "</div><div class=\"p1\" title=\"B\" style=\"flex-grow:5\"><span>B</span></div><div class=\"in\" " ∷
+    codes "title=\"contract\" style=\"flex-grow:1\"><span>contract</span></div><div class=\"out\" title=\"elsewhere\" style=\"flex-grow:0\">" ∷
+    codes "<span>elsewhere</span></div><div class=\"fee\" title=\"fees\" style=\"flex-grow:0\"><span>fees</span></div></div>\n" ∷
     codes "<div class=\"ctl\"><input type=\"range\" id=\"range\" min=\"0\" max=\"3\" value=\"3\" " ∷
     codes "aria-label=\"event\"><output id=\"said\"></output></div>\n" ∷
     codes "<div class=\"now\"><b>can now:</b> <p class=\"off\" data-at=\"0:on 1:off\">advertise; waits for A, " ∷

@@ -85,10 +85,10 @@ before_table =
     codes "</style>\n" ∷
     codes "</head>\n" ∷
     codes "<body><h1>lottery<small>600,000 satoshi in deposits</small></h1>\n" ∷
-    codes "<div class=\"bar\" title=\"where the money is\"><div class=\"p0\" style=\"flex-grow:397000\">" ∷
-    codes "<span>A</span></div><div class=\"p1\" style=\"flex-grow:0\"><span>B</span></div><div class=\"in\" " ∷
-    codes "style=\"flex-grow:198000\"><span>contract</span></div><div class=\"out\" style=\"flex-grow:0\">" ∷
-    codes "<span>elsewhere</span></div><div class=\"fee\" style=\"flex-grow:5000\"><span>fees</span></div></div>\n" ∷
+    codes "<div class=\"bar\" title=\"where the money is\"><div class=\"p0\" title=\"A\" style=\"flex-grow:397000\">" ∷
+    codes "<span>A</span></div><div class=\"p1\" title=\"B\" style=\"flex-grow:0\"><span>B</span></div><div class=\"in\" " ∷
+    codes "title=\"contract\" style=\"flex-grow:198000\"><span>contract</span></div><div class=\"out\" title=\"elsewhere\" style=\"flex-grow:0\">" ∷
+    codes "<span>elsewhere</span></div><div class=\"fee\" title=\"fees\" style=\"flex-grow:5000\"><span>fees</span></div></div>\n" ∷
     codes "<div class=\"ctl\"><input type=\"range\" id=\"range\" min=\"0\" max=\"9\" value=\"9\" " ∷
     codes "aria-label=\"event\"><output id=\"said\"></output></div>\n" ∷
     codes "<div class=\"now\"><b>can now:</b> <p class=\"off\" data-at=\"0:on 2:off\">advertise; waits for A, " ∷
@@ -188,7 +188,7 @@ table =
     codes "<tr class=\"ev done\" id=\"event-11\" data-first=\"11\" data-money=\"0 0 598000 0 2000\" " ∷
     codes "data-said=\"event 11 of 16, height 880,000\"><td class=\"path\"><bdi>11</bdi></td><td class=\"what\" " ∷
     codes "title=\"reveal 0 A a\n" ∷
-    codes "done\">A shows a</td><td class=\"sum p0\" data-of=\"A\"><span class=\"dot\"></span></td><td></td><td>" ∷
+    codes "done\">A shows a</td><td class=\"sum p0\" data-of=\"A\"><span class=\"dot\" title=\"acts\"></span></td><td></td><td>" ∷
     codes "</td><td></td></tr>\n" ∷
     codes "<tr class=\"ev accepted\" id=\"event-12\" data-first=\"12\" data-money=\"0 0 597000 0 3000\" " ∷
     codes "data-said=\"event 12 of 16, height 880,000\"><td class=\"path\"><bdi>12</bdi></td><td class=\"what\" " ∷

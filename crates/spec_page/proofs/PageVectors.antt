@@ -39,11 +39,11 @@ before_table =
     codes "</style>\n" ∷
     codes "</head>\n" ∷
     codes "<body><h1>escrow<small>100 satoshi in deposits</small></h1>\n" ∷
-    codes "<div class=\"bar\" title=\"where the money is\"><div class=\"p0\" style=\"flex-grow:97\">" ∷
-    codes "<span>Buyer</span></div><div class=\"p1\" style=\"flex-grow:0\"><span>Seller</span></div><div " ∷
-    codes "class=\"p2\" style=\"flex-grow:3\"><span>Mediator</span></div><div class=\"in\" style=\"flex-grow:0\">" ∷
-    codes "<span>contract</span></div><div class=\"out\" style=\"flex-grow:0\"><span>elsewhere</span></div><div " ∷
-    codes "class=\"fee\" style=\"flex-grow:0\"><span>fees</span></div></div>\n" ∷
+    codes "<div class=\"bar\" title=\"where the money is\"><div class=\"p0\" title=\"Buyer\" style=\"flex-grow:97\">" ∷
+    codes "<span>Buyer</span></div><div class=\"p1\" title=\"Seller\" style=\"flex-grow:0\"><span>Seller</span></div><div " ∷
+    codes "class=\"p2\" title=\"Mediator\" style=\"flex-grow:3\"><span>Mediator</span></div><div class=\"in\" title=\"contract\" style=\"flex-grow:0\">" ∷
+    codes "<span>contract</span></div><div class=\"out\" title=\"elsewhere\" style=\"flex-grow:0\"><span>elsewhere</span></div><div " ∷
+    codes "class=\"fee\" title=\"fees\" style=\"flex-grow:0\"><span>fees</span></div></div>\n" ∷
     codes "<div class=\"ctl\"><input type=\"range\" id=\"range\" min=\"0\" max=\"8\" value=\"8\" " ∷
     codes "aria-label=\"event\"><output id=\"said\"></output></div>\n" ∷
     codes "<div class=\"now\"><b>can now:</b> <p class=\"off\" data-at=\"0:on 1:off\">advertise; waits for Buyer, " ∷
@@ -149,7 +149,7 @@ run_rows =
     codes "13 of 18, height 1,000\"><td class=\"path\"><bdi>13</bdi></td><td class=\"what\" title=\"authorise " ∷
     codes "Mediator #3 2\n" ∷
     codes "done\">Mediator agrees to r.2</td><td></td><td></td><td class=\"sum p2\" data-of=\"Mediator\"><span " ∷
-    codes "class=\"dot\"></span></td><td></td><td></td></tr>\n" ∷
+    codes "class=\"dot\" title=\"acts\"></span></td><td></td><td></td></tr>\n" ∷
     codes "<tr class=\"ev accepted\" id=\"event-14\" data-first=\"14\" data-money=\"0 0 0 100 0 0\" " ∷
     codes "data-said=\"event 14 of 18, height 1,000\"><td class=\"path\"><bdi>14</bdi></td><td class=\"what\" " ∷
     codes "title=\"fire #3 2\n" ∷
@@ -164,7 +164,7 @@ run_rows =
     codes "16 of 18, height 1,000\"><td class=\"path\"><bdi>16</bdi></td><td class=\"what\" title=\"authorise " ∷
     codes "Mediator #5 1\n" ∷
     codes "done\">Mediator agrees to r.2/1.1</td><td></td><td></td><td class=\"sum p2\" data-of=\"Mediator\"><span " ∷
-    codes "class=\"dot\"></span></td><td></td><td></td></tr>\n" ∷
+    codes "class=\"dot\" title=\"acts\"></span></td><td></td><td></td></tr>\n" ∷
     codes "<tr class=\"ev refused\" id=\"event-17\" data-first=\"17\" data-money=\"0 0 3 97 0 0\" " ∷
     codes "data-said=\"event 17 of 18, height 1,000\"><td class=\"path\"><bdi>17</bdi></td><td class=\"what\" " ∷
     codes "title=\"fire #5 0\n" ∷

@@ -96,11 +96,11 @@ before_table =
     codes "</style>\n" ∷
     codes "</head>\n" ∷
     codes "<body><h1>rivals<small>2,500,000 satoshi in deposits</small></h1>\n" ∷
-    codes "<div class=\"bar\" title=\"where the money is\"><div class=\"p0\" style=\"flex-grow:698000\">" ∷
-    codes "<span>Seller</span></div><div class=\"p1\" style=\"flex-grow:998000\"><span>Ann</span></div><div " ∷
-    codes "class=\"p2\" style=\"flex-grow:799000\"><span>Bob</span></div><div class=\"in\" style=\"flex-grow:0\">" ∷
-    codes "<span>contract</span></div><div class=\"out\" style=\"flex-grow:0\"><span>elsewhere</span></div><div " ∷
-    codes "class=\"fee\" style=\"flex-grow:5000\"><span>fees</span></div></div>\n" ∷
+    codes "<div class=\"bar\" title=\"where the money is\"><div class=\"p0\" title=\"Seller\" style=\"flex-grow:698000\">" ∷
+    codes "<span>Seller</span></div><div class=\"p1\" title=\"Ann\" style=\"flex-grow:998000\"><span>Ann</span></div><div " ∷
+    codes "class=\"p2\" title=\"Bob\" style=\"flex-grow:799000\"><span>Bob</span></div><div class=\"in\" title=\"contract\" style=\"flex-grow:0\">" ∷
+    codes "<span>contract</span></div><div class=\"out\" title=\"elsewhere\" style=\"flex-grow:0\"><span>elsewhere</span></div><div " ∷
+    codes "class=\"fee\" title=\"fees\" style=\"flex-grow:5000\"><span>fees</span></div></div>\n" ∷
     codes "<div class=\"ctl\"><input type=\"range\" id=\"range\" min=\"0\" max=\"9\" value=\"9\" " ∷
     codes "aria-label=\"event\"><output id=\"said\"></output></div>\n" ∷
     codes "<div class=\"now\"><b>can now:</b> <p class=\"off\" data-at=\"0:on 2:off\">0:advertise, 1:advertise; " ∷
@@ -201,7 +201,7 @@ table =
     codes "data-said=\"event 18 of 21, height 880,000\"><td class=\"path\"><bdi>18</bdi></td><td class=\"what\" " ∷
     codes "title=\"give Bob #2 -&gt; Bob 799000\n" ∷
     codes "accepted spends #2 makes #4 799000 lock 0\">Bob gives Bob 799,000</td><td></td><td></td><td class=\"sum " ∷
-    codes "p2\" data-of=\"Bob\">799,000<span class=\"dot\"></span></td><td></td><td class=\"sum\" " ∷
+    codes "p2\" data-of=\"Bob\">799,000<span class=\"dot\" title=\"acts\"></span></td><td></td><td class=\"sum\" " ∷
     codes "data-of=\"fees\">2,000</td></tr>\n" ∷
     codes "<tr class=\"ev accepted\" id=\"event-19\" data-first=\"19\" data-money=\"0 0 799000 1698000 0 3000\" " ∷
     codes "data-said=\"event 19 of 21, height 880,000\"><td class=\"path\"><bdi>19</bdi></td><td class=\"what\" " ∷

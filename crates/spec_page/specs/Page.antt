@@ -56,7 +56,7 @@ outlook_part rows =
 
 abbrev pub bar_piece : List ℕ → List ℕ → ℕ → Element
 bar_piece look name value =
-    element (codes "div") ((codes "class", look) ∷ (codes "style", codes "flex-grow:" ++ decimal value) ∷ [])
+    element (codes "div") ((codes "class", look) ∷ (codes "title", name) ∷ (codes "style", codes "flex-grow:" ++ decimal value) ∷ [])
     (inner (element (codes "span") [] (said name)) nothing)
 
 abbrev pub party_piece : Money → ℕ → List ℕ → Element

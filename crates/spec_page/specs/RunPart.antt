@@ -100,7 +100,7 @@ changed (Some before) now rest = if before == now then rest else words (sum_text
 
 -- a mark in the column of who acts
 abbrev pub mark : Bool → Content
-mark true = inner (classed (codes "span") (codes "dot") nothing) nothing
+mark true = inner (element (codes "span") ((codes "class", codes "dot") ∷ (codes "title", codes "acts") ∷ []) nothing) nothing
 mark false = nothing
 
 abbrev pub is_actor : Option (List ℕ) → List ℕ → Bool

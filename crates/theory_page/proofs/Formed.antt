@@ -5,7 +5,7 @@ use Rattle.std.specs.Str.{bytes_eq}
 use Rattle.std.specs.List.{list_all}
 use Rattle.theory_text.proofs.ListFacts.{and_is, and_left, and_right}
 use Rattle.spec_page.specs.Html.{Element, element, raw, Content, nothing, words, inner, is_well_formed, is_well_formed_inside, IsWellFormedPage}
-use Rattle.spec_page.specs.Html.{content_text, all_of, spaced, lines_of, classed, said}
+use Rattle.spec_page.specs.Html.{content_text, all_of, spaced, lines_of, said}
 use Rattle.spec_terms.specs.Advert.{Advert}
 use Rattle.spec_terms.specs.Parties.{participants}
 use Rattle.spec_tool.specs.declared.which.Which.{Which}
@@ -28,8 +28,8 @@ use Rattle.spec_page.specs.Timeline.{next_change}
 use Rattle.spec_page.specs.Picture.{sheet, contract_lines, picture}
 use Rattle.spec_page.specs.Style.{style_text}
 use Rattle.spec_page.specs.Script.{script_text}
-use Rattle.spec_page.specs.Cells.{Columns, party_look, cell_attributes, sum_cell, party_cell, empty_cell, each_from, each_party, if_elsewhere, last_cells, party_head, plain_head, last_heads, head_row}
-use Rattle.spec_page.specs.ContractPart.{Scene, chip, chips, conditions_content, with_part, sum_if, sums_to, payment_cell, stake_element, stake_if, stake_elements, stake_cell}
+use Rattle.spec_page.specs.Cells.{Columns, party_look, sum_cell, party_cell, empty_cell, each_from, each_party, if_elsewhere, last_cells, party_head, plain_head, last_heads, head_row}
+use Rattle.spec_page.specs.ContractPart.{Scene, chips, conditions_content, with_part, sum_if, sums_to, payment_cell, stake_element, stake_if, stake_elements, stake_cell}
 use Rattle.spec_page.specs.ContractPart.{way_element, no_cell, choice_element, row_element, row_size, row_elements, contract_title, fee_words, contract_elements, sheet_size}
 use Rattle.spec_page.specs.RunPart.{field, note_element, note_content, changed, mark, is_actor, sum_at, sum_before, party_sum, last_sums}
 use Rattle.spec_page.specs.RunPart.{event_element, event_elements, end_element, run_elements}

@@ -4,7 +4,7 @@ use Rattle.std.specs.Prelude.{if◌then◌else◌}
 use Rattle.std.specs.List.{AllByRecursion}
 use Rattle.spec_run.specs.Translation.{Turn}
 use Rattle.spec_page.specs.Moments.{Moment, after_turn}
-use Rattle.spec_page.specs.Folds.{Fold, may_share, longer, fold_of, folded_from, folded}
+use Rattle.spec_page.specs.Folds.{Fold, may_share, longer, fold_of, folded_from}
 use Rattle.spec_page.specs.Stops.{last_moment}
 use Rattle.theory_page.specs.Shows.{FoldsHaveMoments}
 

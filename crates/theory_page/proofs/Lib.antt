@@ -7,3 +7,5 @@ mod Runs
 mod Told
 mod Numbered
 mod Left
+mod Ids
+mod Once

@@ -1,6 +1,6 @@
 -- In every row each part of a contract has the look that it has at the row's moment, by the number at which a page looks it up.
-use Rattle.std.proofs.Common.{◌≡◌, ℕ, zero, suc, ◌+◌, ◌-◌, ◌<◌, List, [], ◌∷◌, ◌++◌, map, length, Option, Some, None, refl, sym, ap, subst, ◌∙◌, append_assoc, append-nil, length-append, arith}
-use Rattle.std.specs.Prelude.{slice_get, unwrap_or, flat_map}
+use Rattle.std.proofs.Common.{◌≡◌, ℕ, zero, suc, ◌+◌, ◌-◌, List, [], ◌∷◌, ◌++◌, map, length, Option, Some, None, refl, sym, ap, ◌∙◌, append_assoc, length-append, arith}
+use Rattle.std.specs.Prelude.{unwrap_or, flat_map}
 use Rattle.std.specs.List.{AllByRecursion}
 use Rattle.std.proofs.lemmas.Option.{slice_get-get_or}
 use Rattle.std.proofs.Math.Seq.{get_or-append_seam}
@@ -19,12 +19,12 @@ use Rattle.spec_page.specs.declared.way_row.WayRow.{WayRow}
 use Rattle.spec_page.specs.declared.way_row.WayRow.TheVariants.{Choice, Way}
 use Rattle.spec_page.specs.Ways.{way_rows}
 use Rattle.spec_page.specs.Moments.{Moment, Move, move, first_moment}
-use Rattle.spec_page.specs.Statuses.{move_status, condition_statuses, payment_statuses, row_looks, sheet_looks, looks_from}
+use Rattle.spec_page.specs.Statuses.{move_status, condition_statuses, payment_statuses, row_looks, looks_from}
 use Rattle.spec_page.specs.Timeline.{look_in}
 use Rattle.spec_page.specs.Picture.{sheet}
 use Rattle.spec_page.specs.ContractPart.{row_size, rows_size, sheet_size}
 use Rattle.spec_page.specs.Folds.{Fold, folded}
-use Rattle.spec_page.specs.Stops.{Stop, fold_stop, shown_folds, last_moment, more_stops, halt_stops, held_in, stops_in, stops_from, stops}
+use Rattle.spec_page.specs.Stops.{Stop, fold_stop, shown_folds, last_moment, more_stops, halt_stops, held_in, stops_in, stops_from}
 use Rattle.theory_page.specs.Shows.{ShowConditions, ShowPayments, ShowRow, ShowRows, ShowContracts, RowsShowLooks}
 
 -- ---- a list in three parts

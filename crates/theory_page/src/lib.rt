@@ -2,6 +2,7 @@
 #![tactic(auto)]
 
 ghost use Rattle.spec_page.specs.Statements.{PagesAreWellFormed, TextsAreSafe, RowsShowBranches, AllRowsHoldEvents, MoneyIsWhole, RowsAreWhole};
+ghost use Rattle.theory_page.specs.Ids.{IdsStandOnce};
 ghost use Rattle.theory_page.specs.Shows.{RowsShowLooks, FoldsHaveMoments};
 ghost use Rattle.theory_page.specs.Tells.{LinesTellTurns};
 ghost use Rattle.theory_run.specs.Sound.{RunsAreSound};
@@ -26,6 +27,11 @@ pub fn rows_show_branches()
 /// The rows of a run hold its events, each once; of those that are shown none holds an event that another holds.
 pub fn rows_hold_events()
     ensures { AllRowsHoldEvents }
+{}
+
+/// A page has the ids of its rows, and those of its slider; each stands once.
+pub fn ids_stand_once()
+    ensures { IdsStandOnce }
 {}
 
 /// Where no more is there than was, all sums of a row together are what was.

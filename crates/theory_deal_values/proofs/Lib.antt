@@ -1,4 +1,7 @@
 pub mod FinishedDeal
+pub mod KnownSignatures
+pub mod LongFiles
+pub mod SignedFiles
 mod PlannedDeals
 mod RefusedDeals
 mod SignedDeals

@@ -35,7 +35,7 @@ use Rattle.theory_page.specs.Ids.{ids_in, ids_inside, id_of, page_ids}
 neither : (xs ys : List (List ℕ)) → xs ≡ [] → ys ≡ [] → xs ++ ys ≡ []
 neither xs ys h k = λ i. h i ++ k i
 
-all_ids : (es : List Element) → ids_inside (all_of es) ≡ flat_map ids_in es
+pub all_ids : (es : List Element) → ids_inside (all_of es) ≡ flat_map ids_in es
 all_ids [] = refl
 all_ids (e ∷ es) = ap (λ t. ids_in e ++ t) (all_ids es)
 
@@ -43,7 +43,7 @@ spaced_ids : (es : List Element) → ids_inside (spaced es) ≡ flat_map ids_in 
 spaced_ids [] = refl
 spaced_ids (e ∷ es) = ap (λ t. ids_in e ++ t) (spaced_ids es)
 
-lines_ids : (es : List Element) → ids_inside (lines_of es) ≡ flat_map ids_in es
+pub lines_ids : (es : List Element) → ids_inside (lines_of es) ≡ flat_map ids_in es
 lines_ids [] = refl
 lines_ids (e ∷ es) = ap (λ t. ids_in e ++ t) (lines_ids es)
 
@@ -53,7 +53,7 @@ lines_ids (e ∷ es) = ap (λ t. ids_in e ++ t) (lines_ids es)
 abbrev AllBare : List Element → Type 0
 AllBare es = flat_map ids_in es ≡ []
 
-both_bare : (xs ys : List Element) → AllBare xs → AllBare ys → AllBare (xs ++ ys)
+pub both_bare : (xs ys : List Element) → AllBare xs → AllBare ys → AllBare (xs ++ ys)
 both_bare xs ys h k = flat_map-append ids_in xs ys ∙ neither _ _ h k
 
 each_bare : (f : ℕ → List ℕ → Element) → ((n : ℕ) (p : List ℕ) → ids_in (f n p) ≡ []) → (n : ℕ) (ps : List (List ℕ))

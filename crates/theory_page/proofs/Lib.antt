@@ -9,3 +9,6 @@ mod Numbered
 mod Left
 mod Ids
 mod Once
+mod Small
+mod SvgIds
+mod WaysOnce

@@ -34,7 +34,7 @@ use Rattle.theory_page.proofs.Ids.{page_has, sheet_page_bare}
 
 -- ---- different texts
 
-not_same : (a b : List ℕ) → (a ≡ b → ⊥) → bytes_eq a b ≡ false
+pub not_same : (a b : List ℕ) → (a ≡ b → ⊥) → bytes_eq a b ≡ false
 not_same a b differ = by_test (bytes_eq a b) refl
   where
     by_test : (t : Bool) → bytes_eq a b ≡ t → t ≡ false
@@ -44,10 +44,10 @@ not_same a b differ = by_test (bytes_eq a b) refl
 -- ---- two lists
 
 -- none of these stands among those
-abbrev Apart : List (List ℕ) → List (List ℕ) → Type 0
+abbrev pub Apart : List (List ℕ) → List (List ℕ) → Type 0
 Apart xs ys = AllByRecursion (λ (x : List ℕ). is_among x ys ≡ false) xs
 
-both_differ : (xs ys : List (List ℕ)) → are_different xs ≡ true → are_different ys ≡ true → Apart xs ys → are_different (xs ++ ys) ≡ true
+pub both_differ : (xs ys : List (List ℕ)) → are_different xs ≡ true → are_different ys ≡ true → Apart xs ys → are_different (xs ++ ys) ≡ true
 both_differ [] ys h k a = k
 both_differ (x ∷ xs) ys h k a =
     let new : is_among x (xs ++ ys) ≡ false = list_any-append (λ (t : List ℕ). bytes_eq t x) xs ys ∙ or_no _ _ (not_yes _ (and_left _ _ h)) a.0 in

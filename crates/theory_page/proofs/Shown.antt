@@ -41,7 +41,7 @@ shown_paths-append (Way path depth share conditions payments ∷ xs) ys =
     (ap (λ (ps : List (List PathStep)). paid_paths path payments ++ ps) (shown_paths-append xs ys)
     ∙ sym (append_assoc (paid_paths path payments) (shown_paths xs) (shown_paths ys)))
 
-branch_paths_of-append : (xs ys : List Located) → branch_paths_of (xs ++ ys) ≡ branch_paths_of xs ++ branch_paths_of ys
+pub branch_paths_of-append : (xs ys : List Located) → branch_paths_of (xs ++ ys) ≡ branch_paths_of xs ++ branch_paths_of ys
 branch_paths_of-append [] ys = refl
 branch_paths_of-append (x ∷ xs) ys = by_subterm x.subterm (branch_paths_of-append xs ys)
   where

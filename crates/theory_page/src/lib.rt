@@ -2,12 +2,14 @@
 #![tactic(auto)]
 
 ghost use Rattle.spec_page.specs.Statements.{PagesAreWellFormed, TextsAreSafe, RowsShowBranches, AllRowsHoldEvents, MoneyIsWhole, RowsAreWhole};
-ghost use Rattle.theory_page.specs.Ids.{IdsStandOnce};
+ghost use Rattle.theory_page.specs.Ids.{IdsStandOnce, SvgIdsStandOnce};
 ghost use Rattle.theory_page.specs.Shows.{RowsShowLooks, FoldsHaveMoments};
 ghost use Rattle.theory_page.specs.Tells.{LinesTellTurns};
 ghost use Rattle.theory_run.specs.Sound.{RunsAreSound};
+ghost use Rattle.theory_script.specs.Listed.{PathsInOrder};
 
 use theory_run::runs_are_sound;
+use theory_script::paths_in_order;
 
 /// Every page of a run or of a contract alone is well-formed HTML, whatever its title and its names are.
 pub fn pages_are_well_formed()
@@ -33,6 +35,19 @@ pub fn rows_hold_events()
 pub fn ids_stand_once()
     ensures { IdsStandOnce }
 {}
+
+fn by_order()
+    requires { PathsInOrder }
+    ensures { SvgIdsStandOnce }
+{}
+
+/// An SVG has the ids of its rows, and of a run of checked contracts each stands once.
+pub fn svg_ids_stand_once()
+    ensures { SvgIdsStandOnce }
+{
+    paths_in_order();
+    by_order();
+}
 
 /// Where no more is there than was, all sums of a row together are what was.
 pub fn money_is_whole()

@@ -1,7 +1,7 @@
 mod PiecesLemmas
-mod EscapedLemmas
+pub mod EscapedLemmas
 mod HtmlLemmas
-mod Onto
+pub mod Onto
 mod CellLemmas
 mod WayLemmas
 mod RunLemmas

@@ -58,7 +58,7 @@ fn is_actor(actor: &Option<Name>, party: &Name) -> bool
 }
 
 /// What the party of this number has.
-pub(crate) fn sum_at(number: usize, money: &Money) -> u64
+pub fn sum_at(number: usize, money: &Money) -> u64
     ensures { result ≡ spec.sum_at number money.now }
 {
     match money.parties.as_slice().get(number) {
@@ -67,7 +67,8 @@ pub(crate) fn sum_at(number: usize, money: &Money) -> u64
     }
 }
 
-fn sum_before(number: usize, before: Option<&Money>) -> Option<u64>
+/// What it had before, where there is a row before.
+pub fn sum_before(number: usize, before: Option<&Money>) -> Option<u64>
     ensures { result ≡ spec.sum_before number (option_copied before.entry) }
 {
     match before {

@@ -17,7 +17,8 @@ use spec_data::{Name, OutOfMemory};
 use spec_page::{EventRow, Money, Picture, Sheet, WayRow};
 use std::alloc::Global;
 
-fn is_elsewhere(rows: &[EventRow]) -> bool
+/// Whether anything is elsewhere in one of the rows.
+pub fn is_elsewhere(rows: &[EventRow]) -> bool
     ensures { result ≡ spec.is_elsewhere rows.now }
 {
     for row in rows {
@@ -39,7 +40,8 @@ fn rows_size(rows: &[WayRow]) -> Result<usize, OutOfMemory>
     Ok(count)
 }
 
-fn sheet_size(sheet: &Sheet) -> Result<usize, OutOfMemory>
+/// How many parts of a contract have a look.
+pub fn sheet_size(sheet: &Sheet) -> Result<usize, OutOfMemory>
     ensures { IfOk result (λ n. n ≡ contract.sheet_size sheet.now) }
 {
     let rows = rows_size(sheet.ways.as_slice())?;

@@ -17,7 +17,8 @@ use spec_data::OutOfMemory;
 use spec_page::Condition;
 use std::alloc::Global;
 
-fn condition_text(alloc: Global, condition: &Condition) -> Result<Vec<u8>, OutOfMemory>
+/// A condition in words.
+pub fn condition_text(alloc: Global, condition: &Condition) -> Result<Vec<u8>, OutOfMemory>
     ensures { IfOk result (λ text. text.items ≡ spec.condition_text condition.now) }
 {
     match condition {

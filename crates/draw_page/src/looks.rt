@@ -9,7 +9,8 @@ use spec_data::OutOfMemory;
 use spec_page::{EventRow, Status};
 use std::alloc::Global;
 
-fn look_in(part: usize, looks: &[Status]) -> Status
+/// Where a part stands, by the looks of a row.
+pub fn look_in(part: usize, looks: &[Status]) -> Status
     ensures { result ≡ spec.look_in part looks.now }
 {
     match looks.get(part) {
@@ -18,7 +19,8 @@ fn look_in(part: usize, looks: &[Status]) -> Status
     }
 }
 
-fn status_word(status: Status) -> &'static [u8]
+/// The class of what stands so.
+pub fn status_word(status: Status) -> &'static [u8]
     ensures { result.now ≡ spec.status_word status }
 {
     match status {

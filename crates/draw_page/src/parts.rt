@@ -8,14 +8,14 @@ use spec_page::WayRow;
 use std::alloc::AllocError;
 
 /// The number of the part so many parts further on.
-pub(crate) fn further(part: usize, count: usize) -> Result<usize, OutOfMemory>
+pub fn further(part: usize, count: usize) -> Result<usize, OutOfMemory>
     ensures { IfOk result (λ n. n ≡ part + count) }
 {
     part.checked_add(count).ok_or(AllocError)
 }
 
 /// How many parts of a row have a look.
-pub(crate) fn row_size(row: &WayRow) -> Result<usize, OutOfMemory>
+pub fn row_size(row: &WayRow) -> Result<usize, OutOfMemory>
     ensures { IfOk result (λ n. n ≡ spec.row_size row.now) }
 {
     match row {

@@ -12,7 +12,7 @@ use std::alloc::Global;
 /// A piece of a page. A number and a sum stand in a text or a value as they are; the plain ones belong to a text that is still to be
 /// escaped.
 #[derive(Clone, Copy)]
-pub(crate) enum Piece<'a> {
+pub enum Piece<'a> {
     /// Bytes as they are.
     Mark(&'a [u8]),
     /// The bytes of a text or a value.
@@ -39,7 +39,7 @@ fn put_piece(alloc: Global, out: &mut Vec<u8>, piece: &Piece) -> Result<(), OutO
 }
 
 /// Pieces, one behind another.
-pub(crate) fn put_all(alloc: Global, out: &mut Vec<u8>, pieces: &[Piece]) -> Result<(), OutOfMemory>
+pub fn put_all(alloc: Global, out: &mut Vec<u8>, pieces: &[Piece]) -> Result<(), OutOfMemory>
     ensures { OnOk result (out.new.items ≡ out.old.items ++ pieces_text pieces.now) }
 {
     for piece in pieces {
@@ -49,7 +49,7 @@ pub(crate) fn put_all(alloc: Global, out: &mut Vec<u8>, pieces: &[Piece]) -> Res
 }
 
 /// A text of these pieces.
-pub(crate) fn made(alloc: Global, pieces: &[Piece]) -> Result<Vec<u8>, OutOfMemory>
+pub fn made(alloc: Global, pieces: &[Piece]) -> Result<Vec<u8>, OutOfMemory>
     ensures { IfOk result (λ text. text.items ≡ pieces_text pieces.now) }
 {
     let mut text = Vec::new(alloc);

@@ -14,7 +14,7 @@ use spec_page::{EventRow, Look, Money};
 use std::alloc::Global;
 
 /// The class of a row.
-pub(crate) fn look_word(look: Look) -> &'static [u8]
+pub fn look_word(look: Look) -> &'static [u8]
     ensures { result.now ≡ spec.look_word look }
 {
     match look {
@@ -38,7 +38,7 @@ fn event_id(alloc: Global, first: u32) -> Result<Vec<u8>, OutOfMemory>
 }
 
 /// The id of a row.
-pub(crate) fn row_id(alloc: Global, first: u32, look: Look) -> Result<Vec<u8>, OutOfMemory>
+pub fn row_id(alloc: Global, first: u32, look: Look) -> Result<Vec<u8>, OutOfMemory>
     ensures { IfOk result (λ text. text.items ≡ spec.row_id first look) }
 {
     match look {
@@ -171,7 +171,7 @@ pub(crate) fn said_text(alloc: Global, count: u64, row: &EventRow) -> Result<Vec
 }
 
 /// The numbers of the events of a row.
-pub(crate) fn number_text(alloc: Global, row: &EventRow) -> Result<Vec<u8>, OutOfMemory>
+pub fn number_text(alloc: Global, row: &EventRow) -> Result<Vec<u8>, OutOfMemory>
     ensures { IfOk result (λ text. text.items ≡ spec.number_text row.now row.now.look) }
 {
     match row.look {

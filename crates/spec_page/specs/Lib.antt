@@ -23,4 +23,5 @@ pub mod SvgRun
 pub mod SvgLayout
 pub mod SvgStyle
 pub mod Svg
+pub mod SvgFormed
 pub mod Statements

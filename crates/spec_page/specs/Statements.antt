@@ -1,4 +1,4 @@
--- What is claimed of pages.
+-- What is claimed of pages and of SVGs.
 use Rattle.std.specs.Prelude.{◌≡◌, ◌≤◌, ℕ, ◌+◌, zero, suc, List, [], ◌∷◌, ◌++◌, map, length, sum_by, Bool, true, false, not, ◌&&◌, ◌||◌}
 use Rattle.std.specs.Prelude.{◌==◌, nat_le, if◌then◌else◌, codes}
 use Rattle.std.specs.List.{list_all, AllByRecursion}
@@ -23,6 +23,10 @@ use Rattle.spec_page.specs.Folds.{Fold, folded}
 use Rattle.spec_page.specs.Stops.{most_rows, is_refusal, fold_look, shown_folds, held_in, stops}
 use Rattle.spec_page.specs.Html.{escaped, IsWellFormedPage}
 use Rattle.spec_page.specs.Page.{page_text, contract_text}
+use Rattle.spec_page.specs.declared.picture.Picture.{Picture}
+use Rattle.spec_page.specs.SvgLayout.{drawing}
+use Rattle.spec_page.specs.Svg.{svg_text}
+use Rattle.spec_page.specs.SvgFormed.{IsWellFormedSvg, StandsApart}
 
 -- ---- the page
 
@@ -30,6 +34,16 @@ use Rattle.spec_page.specs.Page.{page_text, contract_text}
 pub record PagesAreWellFormed : Type 0 where
   pub runs : (title : List ℕ) (s : Setup) (es : List Event) → IsWellFormedPage (page_text title s es)
   pub contracts : (title : List ℕ) (a : Advert) → IsWellFormedPage (contract_text title a)
+
+-- ---- the SVG
+
+-- every SVG is well-formed, whatever its title and its names are
+abbrev pub SvgsAreWellFormed : Type 0
+SvgsAreWellFormed = (title : List ℕ) (s : Setup) (es : List Event) → IsWellFormedSvg (svg_text title s es)
+
+-- no two texts of an SVG overlap, and none leaves it
+abbrev pub TextsStandApart : Type 0
+TextsStandApart = (p : Picture) → StandsApart (drawing p)
 
 -- ---- texts and values
 

@@ -2,6 +2,7 @@ mod Escrow
 mod Vectors
 mod OneRunVectors
 mod PageVectors
+mod SvgVectors
 mod PutVectors
 mod RivalVectors
 mod GuessVectors

@@ -1,0 +1,4 @@
+pub mod Endings
+pub mod Columns
+pub mod PlacedTexts
+pub mod Documents

@@ -81,7 +81,9 @@ fn pending_passing<H: Hash32 + Drop>(
     Ok(answer)
 }
 
-// One event. After a halt the pairs that it signed are still in the book.
+// One event that is prepared. After a halt the pairs that it signed are still in the book. It stands apart, so that the room that it needs
+// isn't blanked where only time passes.
+#[inline(never)]
 fn attempt<H: Hash32 + Drop>(
     alloc: Global,
     trail: &mut Trail<H>,
@@ -107,37 +109,6 @@ fn attempt<H: Hash32 + Drop>(
     Ok(outcome)
 }
 
-// One event that is prepared. After a halt only the trail is changed. It stands apart, so that the room that it needs isn't blanked where
-// only time passes.
-#[inline(never)]
-fn play_pending_change<H: Hash32 + Drop>(
-    alloc: Global,
-    trail: &mut Trail<H>,
-    board: &mut Board,
-    trace: &mut Seq<Record>,
-    event: &Event,
-) -> Result<Outcome, Halt>
-    requires playable { IsPlayable (setup_of (H.digest_of trail.old.hasher) board.old) board.old trail.old.messages }
-    requires is { IsEvent (setup_of (H.digest_of trail.old.hasher) board.old) event.now }
-    ensures hasher { trail.new.hasher ≡ trail.old.hasher }
-    ensures same { SameBoard board.old board.new }
-    ensures goes { IfOk result (GoesOn (setup_of (H.digest_of trail.old.hasher) board.old) (world_of board.old trail.old.messages)
-        board.new trail.new.messages trace.old trace.new event.now) }
-    ensures halts { IfErr result (Halts (setup_of (H.digest_of trail.old.hasher) board.old) (world_of board.old trail.old.messages)
-        trail.new.messages event.now) }
-    ensures board { OnErr result (board.new ≡ board.old) }
-    ensures records { OnErr result (trace.new ≡ trace.old) }
-{
-    let pairs = board.book.count();
-    match attempt(alloc, trail, board, trace, event) {
-        Ok(outcome) => Ok(outcome),
-        Err(halt) => {
-            board.book.cut(pairs);
-            Err(halt)
-        }
-    }
-}
-
 /// One event. After a halt only the trail is changed.
 pub(crate) fn play<H: Hash32 + Drop>(
     alloc: Global,
@@ -157,9 +128,16 @@ pub(crate) fn play<H: Hash32 + Drop>(
     ensures board { OnErr result (board.new ≡ board.old) }
     ensures records { OnErr result (trace.new ≡ trace.old) }
 {
-    match passing(board, event) {
-        Some(blocks) => pass_blocks(trail, board, trace, event, blocks),
-        None => play_pending_change(alloc, trail, board, trace, event),
+    if let Some(blocks) = passing(board, event) {
+        return pass_blocks(trail, board, trace, event, blocks);
+    }
+    let pairs = board.book.count();
+    match attempt(alloc, trail, board, trace, event) {
+        Ok(outcome) => Ok(outcome),
+        Err(halt) => {
+            board.book.cut(pairs);
+            Err(halt)
+        }
     }
 }
 

@@ -1,5 +1,4 @@
 mod Known
-mod Inputs
 mod Owners
 mod Taken
 mod Started

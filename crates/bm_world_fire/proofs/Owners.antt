@@ -3,7 +3,7 @@ use Rattle.std.proofs.Common.{◌≡◌, ℕ, ◌+◌, ◌<◌, List, [], ◌∷
 use Rattle.std.specs.Prelude.{slice_get}
 use Rattle.std.proofs.lemmas.List.{drop_more}
 use Rattle.bm_world_fire.specs.Filled.{deposit_items, deposits_items}
-use Rattle.bm_world_fire.proofs.Inputs.{get-drop, drop-next}
+use Rattle.bm_tx_filled.proofs.Inputs.{get-drop, drop-next}
 
 module _ (hash : List ℕ → List ℕ) where
   first_owner : (owner d : List ℕ) (owners ds : List (List ℕ)) → slice_get ds 0 ≡ Some d → deposits_items hash (owner ∷ owners) ds

@@ -1,10 +1,9 @@
 -- Witnesses that anyone can fill in, by the hash alone.
-use Rattle.std.specs.Prelude.{ℕ, List, [], ◌∷◌, map, Option, Some, None}
+use Rattle.std.specs.Prelude.{ℕ, List, [], ◌∷◌, map}
 use Rattle.spec_terms.specs.declared.path.PathStep.{PathStep}
 use Rattle.spec_terms.specs.declared.pre.Pre.{Pre}
 use Rattle.spec_terms.specs.Precondition.{persistent, volatile}
 use Rattle.spec_data.specs.Lists.{look_up}
-use Rattle.spec_bitcoin.specs.declared.tx.TxIn.{TxIn}
 use Rattle.spec_bitcoin.specs.declared.tx.Tx.{Tx}
 use Rattle.spec_bitcoin.specs.Keys.{key_of, signature_of}
 use Rattle.spec_compiler.specs.declared.prepared.Prepared.{Prepared}
@@ -33,11 +32,6 @@ owner_in pre name = (holding_or_none (look_up name (volatile pre))).owner
 -- the initial transaction with its witnesses
 abbrev pub initial_with : (List ℕ → List ℕ) → List Pre → Prepared → Tx
 initial_with hash pre made = with_witnesses made.tx (deposits_items hash (owners_in pre) made.digests)
-
--- the input with this witness, if there is one
-abbrev pub input_with : TxIn → Option (List (List ℕ)) → TxIn
-input_with input None = input
-input_with input (Some witness) = record input { witness = witness }
 
 -- a participant's signature of the digest by its key of the branch at a path
 abbrev pub signed_by : (List ℕ → List ℕ) → ℕ → List PathStep → List ℕ → List ℕ → List ℕ

@@ -5,9 +5,9 @@ ghost use Rattle.bm_world_coins.specs.Coined.{position_by};
 ghost use Rattle.bm_world_fire.specs.Filled.{initial_with};
 
 use crate::deposits::{persistent_owners, put_witnesses};
-use crate::filling::with_witnesses;
 use bm_compile::Compiled;
 use bm_hash::Hash32;
+use bm_tx_filled::with_witnesses;
 use bm_wellformed::Checked;
 use bm_world_board::Purpose;
 use bm_world_coins::NewPositions;

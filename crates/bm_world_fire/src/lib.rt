@@ -3,7 +3,6 @@
 #![tactic(auto)]
 
 mod deposits;
-mod filling;
 mod firing;
 mod initial;
 mod shown;

@@ -15,7 +15,6 @@ ghost use Rattle.bm_world_fire.specs.Taken.{IsTaking, IsOpen, taking_with};
 ghost use Rattle.bm_world_fire.specs.Shown.{shown_by};
 
 use crate::deposits::{put_witnesses, volatile_owners};
-use crate::filling::with_witnesses;
 use crate::shown::shown_strings;
 use crate::taking::Taking;
 use bm_branch::witness;
@@ -24,6 +23,7 @@ use bm_honest::branch_key;
 use bm_keys::signature;
 use bm_match::branches_at;
 use bm_syntax::{puts, reveals};
+use bm_tx_filled::with_witnesses;
 use bm_world_board::Board;
 use spec_bitcoin::Tx;
 use spec_compiler::Prepared;

@@ -2,7 +2,7 @@
 
 ghost use Rattle.std.specs.Prelude.{◌≡◌, option_map, slice_get, IfOk};
 ghost use Rattle.spec_run.specs.Firing as spec;
-ghost use Rattle.bm_world_fire.specs.Filled.{input_with};
+ghost use Rattle.bm_tx_filled.specs.Filled.{input_with};
 
 use spec_bitcoin::tx::copy_items;
 use spec_bitcoin::{Tx, TxIn};
@@ -47,11 +47,7 @@ fn witnessed(
 }
 
 /// The transaction whose inputs have these witnesses, one by one.
-pub(crate) fn with_witnesses(
-    alloc: Global,
-    tx: &Tx,
-    witnesses: &[Seq<Bytes>],
-) -> Result<Tx, OutOfMemory>
+pub fn with_witnesses(alloc: Global, tx: &Tx, witnesses: &[Seq<Bytes>]) -> Result<Tx, OutOfMemory>
     ensures { IfOk result (λ new. new ≡ spec.with_witnesses tx.now witnesses.now) }
 {
     let mut new = tx.copy(alloc)?;

@@ -4,7 +4,7 @@ use Rattle.std.specs.Prelude.{slice_get}
 use Rattle.std.proofs.lemmas.List.{drop_more}
 use Rattle.spec_bitcoin.specs.declared.tx.TxIn.{TxIn}
 use Rattle.spec_run.specs.Firing.{witnessed}
-use Rattle.bm_world_fire.specs.Filled.{input_with}
+use Rattle.bm_tx_filled.specs.Filled.{input_with}
 
 witnessed-none : (is : List TxIn) → witnessed is [] ≡ is
 witnessed-none [] = refl

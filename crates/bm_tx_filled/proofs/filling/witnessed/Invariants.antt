@@ -1,6 +1,6 @@
 use Rattle.std.proofs.Common.{◌≡◌, ◌++◌, drop}
 use Rattle.spec_run.specs.Firing.{witnessed}
-use Rattle.bm_world_fire.proofs.filling.witnessed.Given as goal
+use Rattle.bm_tx_filled.proofs.filling.witnessed.Given as goal
 
 -- what is there, and what is left, are the whole
 abbrev pub invariant-loop-k : goal.invariant-loop-k

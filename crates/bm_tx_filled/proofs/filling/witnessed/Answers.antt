@@ -1,7 +1,7 @@
 use Rattle.std.proofs.Common.{◌∙◌, ◌∷◌, [], ◌++◌, ap}
-use Rattle.bm_world_fire.specs.Filled.{input_with}
-use Rattle.bm_world_fire.proofs.Inputs.{witnessed_step}
-use Rattle.bm_world_fire.proofs.filling.witnessed.Goals as goal
+use Rattle.bm_tx_filled.specs.Filled.{input_with}
+use Rattle.bm_tx_filled.proofs.Inputs.{witnessed_step}
+use Rattle.bm_tx_filled.proofs.filling.witnessed.Goals as goal
 
 pub loop-k-preserved : goal.loop-k-preserved
 loop-k-preserved c =

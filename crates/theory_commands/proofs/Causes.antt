@@ -27,10 +27,10 @@ use Rattle.theory_psbt.proofs.Combining.{combined_is_joined, other_tx_exactly, c
 use Rattle.theory_tool.specs.Statuses.{OfRun, PlaysFiles, Plays, HasRules, IsTooMuch, IsRefused, Guess, Collision, NoHalt}
 use Rattle.theory_tool.specs.Runs.{IsGuessing, IsColliding, IsUnhalted}
 use Rattle.theory_tool.specs.Statuses.{AuditRefused, StrategyRefused, AllIsWell, TurnsCollide, TurnsGuess, TurnsEnd}
-use Rattle.theory_tool.specs.Strategies.{IsStrategy}
+use Rattle.theory_commands.specs.Strategies.{SpellStrategy}
 use Rattle.theory_tool.proofs.Outcomes.{exact_causes}
 use Rattle.theory_tool.proofs.Statuses.{causes}
-use Rattle.theory_tool.proofs.Strategies.{strategies_read}
+use Rattle.theory_commands.proofs.RuleLines.{rules_read, fault_read}
 use Rattle.theory_commands.specs.Causes.{HoldAll, IsOneRefused, RunsHeld, PlaysHeld, RunRefused, RefusedAfter, ContractRefused, AreUnjoined}
 use Rattle.theory_commands.specs.Causes.{BothHold, PsbtRefused, AuditFileRefused, StrategyFileRefused, GuessHeld, CollisionHeld}
 use Rattle.theory_commands.specs.Causes.{NoHaltHeld, AllIsHeld, CausesInFiles}
@@ -76,20 +76,20 @@ module _ {A R : Type 0} (judged : Judged A) (holds : A → Type 0) (refuses : R 
   ok_is : (is_err judged ≡ false) ↔ ((a : A) × holds a)
   ok_is = (ok_by judged refl, λ x. ap (is_err {T = A} {E = List ℕ}) ((read (x.0)).1 (x.1)))
 
-run_err : (text : Text) → (is_err (run_in text) ≡ true) ↔ ((r : RunRefusal) × IsRefusedRun text r)
+pub run_err : (text : Text) → (is_err (run_in text) ≡ true) ↔ ((r : RunRefusal) × IsRefusedRun text r)
 run_err text =
     err_is (run_in text) (HoldsRun text) (IsRefusedRun text) run_refusal_text (run_files_read.read text) (run_files_read.refused text)
 
-run_ok : (text : Text) → (is_err (run_in text) ≡ false) ↔ ((run : Run) × HoldsRun text run)
+pub run_ok : (text : Text) → (is_err (run_in text) ≡ false) ↔ ((run : Run) × HoldsRun text run)
 run_ok text =
     ok_is (run_in text) (HoldsRun text) (IsRefusedRun text) run_refusal_text (run_files_read.read text) (run_files_read.refused text)
 
-contract_err : (text : Text) → (is_err (contract_in text) ≡ true) ↔ ((r : Refusal) × IsRefusedContract text r)
+pub contract_err : (text : Text) → (is_err (contract_in text) ≡ true) ↔ ((r : Refusal) × IsRefusedContract text r)
 contract_err text =
     err_is (contract_in text) (HoldsContract text) (IsRefusedContract text) refusal_text (contracts_read.read text)
     (contracts_read.refused text)
 
-contract_ok : (text : Text) → (is_err (contract_in text) ≡ false) ↔ ((advert : Advert) × HoldsContract text advert)
+pub contract_ok : (text : Text) → (is_err (contract_in text) ≡ false) ↔ ((advert : Advert) × HoldsContract text advert)
 contract_ok text =
     ok_is (contract_in text) (HoldsContract text) (IsRefusedContract text) refusal_text (contracts_read.read text)
     (contracts_read.refused text)
@@ -107,7 +107,7 @@ psbt_ok text =
 abbrev all_ok : List Advert → JudgedAll
 all_ok adverts = Ok adverts
 
-held : (texts : List Text) (k : ℕ) (adverts : List Advert) → contracts_in k texts ≡ all_ok adverts → HoldAll texts adverts
+pub held : (texts : List Text) (k : ℕ) (adverts : List Advert) → contracts_in k texts ≡ all_ok adverts → HoldAll texts adverts
 held [] k adverts e = let none : [] ≡ adverts = cc in sym none
 held (text ∷ texts) k adverts e = by_first (contract_in text) refl (contracts_in (k + 1) texts) refl e (held texts (k + 1))
   where
@@ -120,7 +120,7 @@ held (text ∷ texts) k adverts e = by_first (contract_in text) refl (contracts_
         let is : first ∷ others ≡ adverts = cc in
         (first, others, sym is, (contracts_read.read text first).0 c, rest others l)
 
-hold : (texts : List Text) (k : ℕ) (adverts : List Advert) → HoldAll texts adverts → contracts_in k texts ≡ all_ok adverts
+pub hold : (texts : List Text) (k : ℕ) (adverts : List Advert) → HoldAll texts adverts → contracts_in k texts ≡ all_ok adverts
 hold [] k adverts e = ap all_ok (sym e)
 hold (text ∷ texts) k adverts h =
     (λ i. onto_judged k ((contracts_read.read text (h.0)).1 (h.3) i) (hold texts (k + 1) (h.1) (h.4) i)) ∙ ap all_ok (sym (h.2))
@@ -150,7 +150,7 @@ refuse_one [] k h = absurd h
 refuse_one (text ∷ texts) k (inl h) = first_err k (contract_in text) (contracts_in (k + 1) texts) ((contract_err text).1 h)
 refuse_one (text ∷ texts) k (inr h) = later_err k (contract_in text) (contracts_in (k + 1) texts) (refuse_one texts (k + 1) h)
 
-contracts_err : (texts : List Text) → (is_err (contracts_in 0 texts) ≡ true) ↔ IsOneRefused texts
+pub contracts_err : (texts : List Text) → (is_err (contracts_in 0 texts) ≡ true) ↔ IsOneRefused texts
 contracts_err texts = (one_refused texts 0, refuse_one texts 0)
 
 -- one alone
@@ -181,7 +181,7 @@ module _ (hash : List ℕ → List ℕ) (claim other : OfRun) (iff : (s : Setup)
         (subst (λ (j : JudgedAll). PlaysFiles hash claim (Ok (h.0)) j) (sym (hold texts 0 (h.1) (h.3)))
         ((iff (setup_of hash (h.0) (h.1)) (h.0.events)).1 (h.4)))
 
-    files : PlaysFiles hash claim (run_in text) (contracts_in 0 texts) ↔ RunsHeld hash other text texts
+    pub files : PlaysFiles hash claim (run_in text) (contracts_in 0 texts) ↔ RunsHeld hash other text texts
     files = (by_run (run_in text) refl, plays_by)
 
   plays : (command : Command) (texts : List Text) → Plays hash claim command texts ↔ PlaysHeld hash other command texts
@@ -211,7 +211,7 @@ module _ (run_bytes : ℕ) (h : Header) (es : List Event) (text : Text) (claim :
   )
 
 module _ (run_bytes : ℕ) (h : Header) (es : List Event) where
-  by_amount : (text : List ℕ) (rules : List Rule) → IsStrategy h (lines_of text) rules → IsTooMuch run_bytes es rules → (b : Bool)
+  by_amount : (text : List ℕ) (rules : List Rule) → SpellStrategy h (lines_of text) rules → IsTooMuch run_bytes es rules → (b : Bool)
       → nat_le (length es + length rules) most_events ≡ b → (r : StrategyRefusal) × IsRefusedStrategy run_bytes h es (Some text) r
   by_amount text rules s (inl many) b e = (too_many, (rules, s, many))
   by_amount text rules s (inr bytes) true e = (too_much, (rules, s, le_is _ _ true e refl, bytes))
@@ -219,15 +219,15 @@ module _ (run_bytes : ℕ) (h : Header) (es : List Event) where
 
   refused_is : (text : Text) → IsRefused run_bytes h es text → (r : StrategyRefusal) × IsRefusedStrategy run_bytes h es text r
   refused_is None x = (too_long, tt)
-  refused_is (Some text) (inl x) = (strategy.first (x.0), (strategies_read.fault h text (x.0)).0 (x.1))
-  refused_is (Some text) (inr x) = by_amount text (x.0) ((strategies_read.rules h text (x.0)).0 (x.1)) (x.2) _ refl
+  refused_is (Some text) (inl x) = (strategy.first (x.0), (fault_read h text (x.0)).0 (x.1))
+  refused_is (Some text) (inr x) = by_amount text (x.0) ((rules_read h text (x.0)).0 (x.1)) (x.2) _ refl
 
   is_refused_for : (text : Text) (r : StrategyRefusal) → IsRefusedStrategy run_bytes h es text r → IsRefused run_bytes h es text
   is_refused_for None r x = tt
   is_refused_for (Some text) too_long x = absurd x
-  is_refused_for (Some text) (strategy.first fault) x = inl (fault, (strategies_read.fault h text fault).1 x)
-  is_refused_for (Some text) too_many x = inr (x.0, (strategies_read.rules h text (x.0)).1 (x.1), inl (x.2))
-  is_refused_for (Some text) too_much x = inr (x.0, (strategies_read.rules h text (x.0)).1 (x.1), inr (x.3))
+  is_refused_for (Some text) (strategy.first fault) x = inl (fault, (fault_read h text fault).1 x)
+  is_refused_for (Some text) too_many x = inr (x.0, (rules_read h text (x.0)).1 (x.1), inl (x.2))
+  is_refused_for (Some text) too_much x = inr (x.0, (rules_read h text (x.0)).1 (x.1), inr (x.3))
 
   strategy_err : (text : Text) → IsRefused run_bytes h es text ↔ ((r : StrategyRefusal) × IsRefusedStrategy run_bytes h es text r)
   strategy_err text = (refused_is text, λ x. is_refused_for text (x.0) (x.1))

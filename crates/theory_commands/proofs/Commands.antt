@@ -1,15 +1,17 @@
 -- What each command answers shows what is said of it.
-use Rattle.std.proofs.Common.{◌≡◌, ℕ, ◌≤◌, List, [], ◌∷◌, length, true, Option, Some, None, arith}
+use Rattle.std.proofs.Common.{◌≡◌, ℕ, List, [], ◌∷◌, drop, length, true, Some, None, arith}
 use Rattle.std.proofs.lemmas.Bool.{and_parts}
 use Rattle.std.proofs.lemmas.Bool.Decides.{nat_tests}
 use Rattle.std.specs.Prelude.{nat_le}
 use Rattle.spec_run.specs.Conditions.{HashesBytes}
+use Rattle.spec_text.specs.Played.{play_text}
 use Rattle.spec_tool.specs.Answers.{text_answer}
-use Rattle.spec_tool.specs.Commands.{Command, check, play, plan, make, psbt_of, psbt_shown, psbt_joined, weigh, audit, auto, files_of}
+use Rattle.spec_tool.specs.Commands.{Command, check, play, plan, make, psbt_of, psbt_shown, psbt_joined, weigh, audit, auto, files_of, run_answer}
 use Rattle.spec_tool.specs.Reads.{Asked, Text, text_at, fits, all_fit}
 use Rattle.spec_tool.specs.Sizes.{most_audit_bytes}
 use Rattle.theory_commands.specs.Commands.{ShowsCommand, CommandsShow}
 use Rattle.theory_plan_text.specs.Statements.{IsWithin}
+use Rattle.theory_commands.proofs.Refused.{files_judged}
 use Rattle.theory_commands.proofs.ShownAudit.{audit_is_shown}
 use Rattle.theory_commands.proofs.ShownAuto.{auto_is_shown}
 use Rattle.theory_commands.proofs.ShownFiles.{check_shown, file_shown, files_shown}
@@ -32,7 +34,7 @@ audited_within run contract file (first ∷ second ∷ Some bytes ∷ texts) few
 shows : Theorems → (hash : List ℕ → List ℕ) → HashesBytes hash → (command : Command) (texts : List Text)
     → all_fit (files_of command) texts ≡ true → ShowsCommand hash command texts (text_answer hash command texts)
 shows t hash bytes (check contract) texts few = check_shown (text_at texts 0)
-shows t hash bytes (play run contracts) texts few = tt
+shows t hash bytes (play run contracts) texts few = files_judged.said (run_answer play_text) hash (text_at texts 0) (drop 1 texts)
 shows t hash bytes (plan run contract) texts few = plan_is_shown t hash bytes texts
 shows t hash bytes (make number size) texts few = make_shown hash bytes number size
 shows t hash bytes (psbt_of run contract which) texts few = signed_is_shown t.signers hash bytes which texts

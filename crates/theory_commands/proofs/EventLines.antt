@@ -13,6 +13,7 @@ use Rattle.spec_text.specs.EventLines.{event_of}
 use Rattle.spec_text.specs.RunFile.{Line, bad, over, empty, says, spelled_within, event_within, event_words, event_of_line}
 use Rattle.spec_text.specs.RunFile.{with_event, counted, event_step, read_events}
 use Rattle.theory_commands.specs.RunFiles.{IsShort, SpellEvents, IsNoEvent, IsOneTooMany, IsTooLong}
+use Rattle.theory_commands.proofs.LineEvents.{event_spelled, event_back, none_spelled, none_back}
 
 abbrev pub Answer : Type 0
 Answer = Result (List Event) RunFault
@@ -82,13 +83,13 @@ module _ (parties : List (List ℕ)) where
           in_order = ap (λ xs. line ∷ xs) f.in_order;
           number = omega (arith, f.number);
           events = e ∷ f.events;
-          spelled = (short, inr (e, f.events, refl, says_e, f.spelled));
+          spelled = (short, inr (e, f.events, refl, event_spelled parties (words_of line) e says_e, f.spelled));
           few = omega (arith, f.few, same);
           fault = subst (λ (k : ℕ). wrong parties k f.line) same f.fault;
         }
 
     found_after : (x : Answer) → Found (count + 1) (n + 1) lines x → Found count n (line ∷ lines) (with_event e x)
-    found_after (Ok es) f = ((short, inr (e, es, refl, says_e, f.0)), omega (arith, f.1))
+    found_after (Ok es) f = ((short, inr (e, es, refl, event_spelled parties (words_of line) e says_e, f.0)), omega (arith, f.1))
     found_after (Err (faults.BadLine m)) f = faulty_after m IsNoEvent f
     found_after (Err (faults.Limit limits.Line m)) f = faulty_after m long_line f
     found_after (Err (faults.Limit limits.Events m)) f = faulty_after m IsOneTooMany f
@@ -130,12 +131,18 @@ module _ (parties : List (List ℕ)) where
           (later (count + 1) (n + 1) (omega (arith, ltb-true count most_events k)))
       by_room false e short said k later =
           here count n line lines IsOneTooMany few
-          (record { short = short; event = e; spelled = said; full = omega (arith, few, ltb-false count most_events k) })
+          (record {
+            short = short;
+            event = e;
+            spelled = event_spelled parties (words_of line) e said;
+            full = omega (arith, few, ltb-false count most_events k);
+          })
 
       by_event : (o : Option Event) → IsShort line → (words_of line ≡ [] → ⊥) → event_of parties (words_of line) ≡ o → Later
           → Found count n (line ∷ lines)
           (event_step n (event_within count o) (read_events parties (counted count (event_within count o)) (n + 1) lines))
-      by_event None short some e later = here count n line lines IsNoEvent few (record { short = short; some = some; none = e })
+      by_event None short some e later =
+          here count n line lines IsNoEvent few (record { short = short; some = some; none = none_spelled parties (words_of line) e })
       by_event (Some event) short some e later = by_room (nat_lt count most_events) event short e refl later
 
       by_words : (ws : List (List ℕ)) → IsShort line → words_of line ≡ ws → Later
@@ -225,7 +232,7 @@ module _ (parties : List (List ℕ)) where
       let number : n + 1 + length lines ≡ n + length (line ∷ lines) = omega arith in
       let size : length es ≡ length (e.0 ∷ e.1) = ap length (e.2) in
       let moved : count + 1 + length (e.1) ≡ count + length (e.0 ∷ e.1) = omega arith in
-      ap (step count n (lines ++ rest)) (says_event count line (e.0) short (e.3) (omega (arith, few, size)))
+      ap (step count n (lines ++ rest)) (says_event count line (e.0) short (event_back parties (words_of line) (e.0) (e.3)) (omega (arith, few, size)))
       ∙ ap (with_event (e.0)) (passed lines (e.1) (count + 1) (n + 1) rest (e.4) (omega (arith, few, size)))
       ∙ ap (λ (c : ℕ). with_all (e.0 ∷ e.1) (read_events parties c (n + 1 + length lines) rest)) moved
       ∙ ap (λ (m : ℕ). with_all (e.0 ∷ e.1) (read_events parties (count + length (e.0 ∷ e.1)) m rest)) number
@@ -248,10 +255,11 @@ module _ (parties : List (List ℕ)) where
   fails count n line lines x fault e f = ap (step count n lines) e ∙ f (read_events parties (counted count x) (n + 1) lines)
 
   pub no_event_says : (count : ℕ) (line : List ℕ) → IsNoEvent parties count line → event_of_line parties count line ≡ bad
-  no_event_says count line w = short_says count line w.short ∙ some_words count (words_of line) None w.some w.none
+  no_event_says count line w =
+      short_says count line w.short ∙ some_words count (words_of line) None w.some (none_back parties (words_of line) w.none)
 
   pub over_says : (count : ℕ) (line : List ℕ) → IsOneTooMany parties count line → event_of_line parties count line ≡ over limits.Events
-  over_says count line w = over_event count line w.event w.short w.spelled w.full
+  over_says count line w = over_event count line w.event w.short (event_back parties (words_of line) w.event w.spelled) w.full
 
   pub too_long_says : (count : ℕ) (line : List ℕ) → IsTooLong line → event_of_line parties count line ≡ over limits.Line
   too_long_says count line w = long_says count line w

@@ -22,6 +22,7 @@ use Rattle.spec_text.specs.RunFile.{secret_of, secret_line, deposit_of, deposit_
 use Rattle.spec_text.specs.RunFile.{header_step, read_header}
 use Rattle.theory_text.proofs.Lines.PrintedWords.{same_bytes}
 use Rattle.theory_commands.specs.RunFiles.{IsShort, SpellHeader, IsRule, IsWrongHeader, IsTooLong}
+use Rattle.theory_commands.proofs.LineParts.{header_says, header_back}
 
 -- ---- what one line says
 
@@ -174,7 +175,7 @@ GoesOn h line next = ((words_of line ≡ []) × (next ≡ h)) ⊎ (header_words 
 spell_on : (h : Header) (line : List ℕ) (next : Header) (lines : List (List ℕ)) (last : Header) → IsShort line → GoesOn h line next
     → SpellHeader next lines last → SpellHeader h (line ∷ lines) last
 spell_on h line next lines last short (inl e) s = (short, inl (e.0, subst (λ k. SpellHeader k lines last) e.1 s))
-spell_on h line next lines last short (inr e) s = (short, inr (next, e, s))
+spell_on h line next lines last short (inr e) s = (short, inr (next, header_says h (words_of line) (says next) e, s))
 
 module _ (h : Header) (n : ℕ) (line : List ℕ) (next : Header) (lines : List (List ℕ)) (short : IsShort line) (on : GoesOn h line next) where
   faulty_on : (m : ℕ) (wrong : Header → List ℕ → Type 0) → Faulty next (n + 1) lines m wrong → Faulty h n (line ∷ lines) m wrong
@@ -236,12 +237,15 @@ found (line ∷ lines) h n = by_long (nat_lt most_line_bytes (length line)) refl
 
     by_said : (x : Line Header) → IsShort line → header_words h (words_of line) ≡ x → WordsFor (words_of line) x → Later
         → Found h n (line ∷ lines) (header_step h n lines x (read_header (kept h x) (n + 1) lines))
-    by_said bad short e w later = inl (here h n line lines (wrong_line bad) (short, e))
+    by_said bad short e w later = inl (here h n line lines (wrong_line bad) (short, header_says h (words_of line) bad e))
     by_said (over limits.Line) short e w later = absurd w
     by_said (over limits.Events) short e w later = absurd w
-    by_said (over limits.Parties) short e w later = here h n line lines (wrong_line (over limits.Parties)) (short, e)
-    by_said (over limits.Deposits) short e w later = here h n line lines (wrong_line (over limits.Deposits)) (short, e)
-    by_said (over limits.Secrets) short e w later = here h n line lines (wrong_line (over limits.Secrets)) (short, e)
+    by_said (over limits.Parties) short e w later =
+        here h n line lines (wrong_line (over limits.Parties)) (short, header_says h (words_of line) (over limits.Parties) e)
+    by_said (over limits.Deposits) short e w later =
+        here h n line lines (wrong_line (over limits.Deposits)) (short, header_says h (words_of line) (over limits.Deposits) e)
+    by_said (over limits.Secrets) short e w later =
+        here h n line lines (wrong_line (over limits.Secrets)) (short, header_says h (words_of line) (over limits.Secrets) e)
     by_said empty short e w later = found_on h n line h lines short (inl (w, refl)) (read_header h (n + 1) lines) (later h (n + 1))
     by_said rule short e w later = record {
       above = [];
@@ -296,5 +300,5 @@ passed (line ∷ lines) h last n rest (short, inl e) =
     ∙ (passed lines h last (n + 1) rest (e.1) ∙ ap (λ (m : ℕ). read_header last m rest) number)
 passed (line ∷ lines) h last n rest (short, inr e) =
     let number : n + 1 + length lines ≡ n + length (line ∷ lines) = omega arith in
-    ap (step h n (lines ++ rest)) (short_says h line short ∙ e.1)
+    ap (step h n (lines ++ rest)) (short_says h line short ∙ header_back h (words_of line) (says (e.0)) (e.1))
     ∙ (passed lines (e.0) last (n + 1) rest (e.2) ∙ ap (λ (m : ℕ). read_header last m rest) number)

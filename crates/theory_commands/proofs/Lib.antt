@@ -1,3 +1,8 @@
+pub mod LineWords
+pub mod LineEvents
+pub mod LineParts
+pub mod LinePaths
+pub mod LineRules
 pub mod HeaderLines
 pub mod EventLines
 pub mod RunFiles
@@ -8,11 +13,15 @@ pub mod ShownFiles
 pub mod Played
 pub mod ShownPlan
 pub mod ShownAudit
+pub mod CountsRead
 pub mod ShownMake
 pub mod Signatures
+pub mod RuleLines
 pub mod Strategies
 pub mod ShownAuto
 pub mod ShownPsbt
-pub mod Commands
 pub mod Causes
+pub mod Refused
+pub mod Commands
 pub mod Words
+pub mod Leave

@@ -9,7 +9,7 @@ use Rattle.spec_run.specs.declared.header.Header.{Header}
 use Rattle.spec_text.specs.declared.run_fault.RunFault.{RunFault}
 use Rattle.spec_text.specs.declared.run_fault.RunFault.TheVariants as faults
 use Rattle.spec_text.specs.declared.run_fault.RunLimit.TheVariants as limits
-use Rattle.spec_text.specs.Lines.{lines_of}
+use Rattle.spec_text.specs.Lines.{lines_of, words_of}
 use Rattle.spec_text.specs.Limits.{most_run_bytes}
 use Rattle.spec_text.specs.RunFile.{Line, bad, over, rule, no_header, header_words, header_line, kept, Headed, header_step, read_header}
 use Rattle.spec_text.specs.RunFile.{read_events, with_header, read_rest, read_run, event_step, event_of_line}
@@ -21,6 +21,7 @@ use Rattle.theory_commands.specs.RunFiles.{IsNoEvent, IsOneTooMany, IsTooLong, H
 use Rattle.theory_commands.specs.RunFiles.{first, IsRefusedRunText, IsRefusedRun, run_refusal_text, RunFilesAreRead}
 use Rattle.theory_commands.proofs.HeaderLines as above
 use Rattle.theory_commands.proofs.EventLines as below
+use Rattle.theory_commands.proofs.LineParts.{header_back}
 
 abbrev Answer : Type 0
 Answer = Result Run RunFault
@@ -144,7 +145,7 @@ wrong_header : (lines : List (List ℕ)) (m : ℕ) (x : Line Header) (fault : �
 wrong_header lines m x fault step_is f =
     ap of_lines f.in_order
     ∙ header_fails f.before f.line f.after f.header x m fault f.spelled f.number
-    (above.short_says f.header f.line (f.fault.0) ∙ f.fault.1) (λ n later. step_is f.header n f.after later)
+    (above.short_says f.header f.line (f.fault.0) ∙ header_back f.header (words_of f.line) x (f.fault.1)) (λ n later. step_is f.header n f.after later)
 
 long_header : (lines : List (List ℕ)) (m : ℕ) → FirstOfHeader lines m (λ h line. IsTooLong line)
     → of_lines lines ≡ a_fault (faults.Limit limits.Line m)

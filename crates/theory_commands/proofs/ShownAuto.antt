@@ -8,6 +8,7 @@ use Rattle.spec_run.specs.declared.event.Run.{Run}
 use Rattle.spec_run.specs.Conditions.{HashesBytes}
 use Rattle.spec_run.specs.Setup.{Setup}
 use Rattle.spec_run.specs.Translation.{last_world}
+use Rattle.spec_text.specs.Lines.{lines_of}
 use Rattle.spec_text.specs.RunText.{run_text}
 use Rattle.spec_tool.specs.declared.rule.Rule.{Rule}
 use Rattle.spec_tool.specs.Answers.{with_contract, rules_judged, size_of, strategy_file}
@@ -29,6 +30,7 @@ use Rattle.theory_commands.specs.Strategies.{HoldsRules, IsRefusedStrategy, stra
 use Rattle.theory_commands.specs.Shown.Auto.{GoesOn, TurnHalts, ShowsAuto}
 use Rattle.theory_commands.proofs.Files.{judges, played, of_whole}
 use Rattle.theory_commands.proofs.Played.{calm, is_run}
+use Rattle.theory_commands.proofs.RuleLines.{strategy_back}
 use Rattle.theory_commands.proofs.RunFiles.{run_files_read}
 use Rattle.theory_commands.proofs.Strategies.{strategy_files_read}
 
@@ -71,7 +73,7 @@ module _ (hash : List ℕ → List ℕ) (bytes : HashesBytes hash) where
     honest : (size : ℕ) (strategy : Text) (rules : List Rule) → HoldsRules size run.header es strategy rules
         → AllByRecursion (IsHonest run.header) rules
     honest size None rules r = absurd r
-    honest size (Some text) rules r = strategies_honest run.header text rules ((strategies_read.rules run.header text rules).1 r.spelled)
+    honest size (Some text) rules r = strategies_honest run.header text rules ((strategies_read.rules run.header text rules).1 (strategy_back run.header (lines_of text) rules r.spelled))
 
     by_turns : (strategy : Text) (rules : List Rule) → HoldsRules (size_of run_file) run.header es strategy rules → IsUnhalted s es
         → (x : Progressed) → extended s (last_world s es) rules ≡ x → Goes s es rules (progressed_answer s.header es x)

@@ -15,8 +15,8 @@ use Rattle.spec_tool.specs.AutoText.{size_limit, events_limit, has_room, fits_wi
 use Rattle.spec_tool.specs.Reads.{Text}
 use Rattle.spec_tool.specs.Sizes.{rule_line_bytes}
 use Rattle.spec_tool.specs.Strategy.{read_strategy}
-use Rattle.theory_tool.specs.Strategies.{IsStrategy}
-use Rattle.theory_tool.proofs.Strategies.{strategies_read}
+use Rattle.theory_commands.specs.Strategies.{SpellStrategy}
+use Rattle.theory_commands.proofs.RuleLines.{rules_read, fault_read}
 use Rattle.theory_commands.specs.Strategies.{HasRoom, IsRules, HoldsRules, StrategyRefusal, too_long, first, too_many, too_much}
 use Rattle.theory_commands.specs.Strategies.{IsRefusedStrategy, strategy_refusal_text, StrategyFilesAreRead}
 
@@ -44,28 +44,28 @@ module _ (run_bytes : ℕ) (h : Header) (es : List Event) where
   Found text (Err why) = (r : StrategyRefusal) × IsRefusedStrategy run_bytes h es (Some text) r × (why ≡ strategy_refusal_text r)
 
   module _ (text : List ℕ) where
-    by_fits : (rules : List Rule) → IsStrategy h (lines_of text) rules → HasRoom es rules → (b : Bool)
+    by_fits : (rules : List Rule) → SpellStrategy h (lines_of text) rules → HasRoom es rules → (b : Bool)
         → nat_lt (run_bytes + rule_line_bytes * length rules) most_run_bytes ≡ b → Found text (if b then Ok rules else Err size_limit)
     by_fits rules s room true e = record { spelled = s; room = room; fits = ltb-true _ _ e }
     by_fits rules s room false e = (too_much, (rules, s, room, ltb-false _ _ e), refl)
 
-    by_room : (rules : List Rule) → IsStrategy h (lines_of text) rules → (b : Bool) → nat_le (length es + length rules) most_events ≡ b
+    by_room : (rules : List Rule) → SpellStrategy h (lines_of text) rules → (b : Bool) → nat_le (length es + length rules) most_events ≡ b
         → Found text (if b then (if fits_within run_bytes rules then Ok rules else Err size_limit) else Err events_limit)
     by_room rules s true e = by_fits rules s (le_is _ _ true e refl) (fits_within run_bytes rules) refl
     by_room rules s false e = (too_many, (rules, s, gt_is _ _ false e refl), refl)
 
     by_read : (x : Result (List Rule) StrategyFault) → read_strategy h text ≡ x → Found text (judged_rules run_bytes es x)
-    by_read (Err fault) e = (first fault, (strategies_read.fault h text fault).0 e, refl)
-    by_read (Ok rules) e = by_room rules ((strategies_read.rules h text rules).0 e) (has_room es rules) refl
+    by_read (Err fault) e = (first fault, (fault_read h text fault).0 e, refl)
+    by_read (Ok rules) e = by_room rules ((rules_read h text rules).0 e) (has_room es rules) refl
 
     found : Found text (strategy_in run_bytes h es (Some text))
     found = by_read (read_strategy h text) refl
 
     -- ---- and what is found is answered
 
-    spelled_is : (rules : List Rule) → IsStrategy h (lines_of text) rules
+    spelled_is : (rules : List Rule) → SpellStrategy h (lines_of text) rules
         → strategy_in run_bytes h es (Some text) ≡ rules_within run_bytes es rules
-    spelled_is rules s = ap (judged_rules run_bytes es) ((strategies_read.rules h text rules).1 s)
+    spelled_is rules s = ap (judged_rules run_bytes es) ((rules_read h text rules).1 s)
 
     with_room : (rules : List Rule) → HasRoom es rules
         → rules_within run_bytes es rules ≡ (if fits_within run_bytes rules then Ok rules else Err size_limit)
@@ -82,7 +82,7 @@ module _ (run_bytes : ℕ) (h : Header) (es : List Event) where
     refused_is : (r : StrategyRefusal) → IsRefusedStrategy run_bytes h es (Some text) r
         → strategy_in run_bytes h es (Some text) ≡ judged_err (strategy_refusal_text r)
     refused_is too_long f = absurd f
-    refused_is (first fault) f = ap (judged_rules run_bytes es) ((strategies_read.fault h text fault).1 f)
+    refused_is (first fault) f = ap (judged_rules run_bytes es) ((fault_read h text fault).1 f)
     refused_is too_many f =
         spelled_is (f.0) (f.1)
         ∙ ap (λ (b : Bool). if b then (if fits_within run_bytes (f.0) then Ok (f.0) else Err size_limit) else Err events_limit)

@@ -1,11 +1,12 @@
 -- What each command shows, from the texts of its files to what it prints.
-use Rattle.std.specs.Prelude.{◌≡◌, ℕ, ◌≤◌, List, true, Some}
+use Rattle.std.specs.Prelude.{◌≡◌, ℕ, ◌≤◌, List, drop, true, Some}
 use Rattle.spec_run.specs.Conditions.{HashesBytes}
 use Rattle.spec_tool.specs.Answers.{text_answer}
 use Rattle.spec_tool.specs.Commands.{Command, check, play, plan, make, psbt_of, psbt_shown, psbt_joined, weigh, audit, auto, Printed}
 use Rattle.spec_tool.specs.Commands.{most_size, command_of, files_of}
 use Rattle.spec_tool.specs.Reads.{Text, text_at, all_fit}
 use Rattle.theory_commands.specs.Files.{ShowsPlayed}
+use Rattle.theory_commands.specs.Refused.{SaysRefusals}
 use Rattle.theory_commands.specs.Shown.Audit.{ShowsAudit}
 use Rattle.theory_commands.specs.Shown.Auto.{ShowsAuto}
 use Rattle.theory_commands.specs.Shown.Check.{ShowsCheck}
@@ -14,10 +15,10 @@ use Rattle.theory_commands.specs.Shown.Plan.{ShowsPlan, ShowsWeights}
 use Rattle.theory_commands.specs.Shown.Psbt.{ShowsSigned}
 use Rattle.theory_commands.specs.Shown.PsbtFiles.{ShowsFile, ShowsFiles}
 
--- of `play` its headline says more
+-- of a run and contracts that `play` takes its headline says more
 abbrev pub ShowsCommand : (List ℕ → List ℕ) → Command → List Text → Printed → Type 0
 ShowsCommand hash (check contract) texts printed = ShowsCheck (text_at texts 0) printed
-ShowsCommand hash (play run contracts) texts printed = Unit {0}
+ShowsCommand hash (play run contracts) texts printed = SaysRefusals (text_at texts 0) (drop 1 texts) printed
 ShowsCommand hash (plan run contract) texts printed = ShowsPlayed hash texts printed (λ s es. ShowsPlan s es printed)
 ShowsCommand hash (make number size) texts printed = ShowsMake hash number size printed
 ShowsCommand hash (psbt_of run contract which) texts printed = ShowsPlayed hash texts printed (λ s es. ShowsSigned which s es printed)

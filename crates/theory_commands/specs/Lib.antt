@@ -1,8 +1,11 @@
 pub mod ContractFiles
+pub mod LineForms
 pub mod RunFiles
 pub mod PsbtFiles
 pub mod Strategies
 pub mod Files
 pub mod Shown
-pub mod Commands
 pub mod Causes
+pub mod Refused
+pub mod Commands
+pub mod Leave

@@ -1,4 +1,4 @@
--- Which run a run file is read as, and why another is refused, line by line.
+-- Which run a run file is read as, and why another is refused, line by line; what a line spells is said by its form.
 use Rattle.std.specs.Prelude.{◌≡◌, ℕ, ◌+◌, ◌≤◌, ◌<◌, List, [], ◌∷◌, ◌++◌, ◌⊎◌, ◌↔◌, length, Some, None, Ok, Err, codes}
 use Rattle.spec_run.specs.declared.event.Event.{Event}
 use Rattle.spec_run.specs.declared.event.Run.{Run}
@@ -8,11 +8,11 @@ use Rattle.spec_text.specs.declared.run_fault.RunFault.TheVariants as faults
 use Rattle.spec_text.specs.declared.run_fault.RunLimit.TheVariants as limits
 use Rattle.spec_text.specs.Lines.{lines_of, words_of}
 use Rattle.spec_text.specs.Limits.{most_line_bytes, most_events, most_run_bytes}
-use Rattle.spec_text.specs.EventLines.{event_of}
-use Rattle.spec_text.specs.RunFile.{Line, bad, over, says, no_header, header_words, read_run}
+use Rattle.spec_text.specs.RunFile.{Line, bad, over, says, no_header, read_run}
 use Rattle.spec_text.specs.Refusals.{run_fault_text}
 use Rattle.spec_tool.specs.Answers.{run_in}
 use Rattle.spec_tool.specs.Reads.{Text}
+use Rattle.theory_commands.specs.LineForms.{SpellsEvent, SpellsNoEvent, SaysOfHeader}
 
 -- ---- lines that are taken
 
@@ -26,7 +26,7 @@ SpellHeader h [] last = last ≡ h
 SpellHeader h (line ∷ lines) last =
     IsShort line
     × (((words_of line ≡ []) × SpellHeader h lines last)
-    ⊎ ((next : Header) × (header_words h (words_of line) ≡ says next) × SpellHeader next lines last))
+    ⊎ ((next : Header) × SaysOfHeader h (words_of line) (says next) × SpellHeader next lines last))
 
 -- the line `--`, which ends the header
 pub record IsRule (line : List ℕ) : Type 0 where
@@ -39,7 +39,7 @@ SpellEvents parties [] es = es ≡ []
 SpellEvents parties (line ∷ lines) es =
     IsShort line
     × (((words_of line ≡ []) × SpellEvents parties lines es)
-    ⊎ ((first : Event) × (later : List Event) × (es ≡ first ∷ later) × (event_of parties (words_of line) ≡ Some first)
+    ⊎ ((first : Event) × (later : List Event) × (es ≡ first ∷ later) × SpellsEvent parties (words_of line) first
     × SpellEvents parties lines later))
 
 -- the lines of a run: those of its header, the rule, and those of its events, which aren't too many
@@ -57,7 +57,7 @@ pub record SpellRun (lines : List (List ℕ)) (run : Run) : Type 0 where
 
 -- what is wrong with a line of the header, behind what was said before it
 abbrev pub IsWrongHeader : Header → List ℕ → Line Header → Type 0
-IsWrongHeader h line said = IsShort line × (header_words h (words_of line) ≡ said)
+IsWrongHeader h line said = IsShort line × SaysOfHeader h (words_of line) said
 
 -- the line has the number m, counted from 1, and is the first of the header of which this holds; those before it give a header
 pub record FirstOfHeader (lines : List (List ℕ)) (m : ℕ) (wrong : Header → List ℕ → Type 0) : Type 0 where
@@ -98,13 +98,13 @@ pub record FirstOfEvents (lines : List (List ℕ)) (m : ℕ) (wrong : List (List
 pub record IsNoEvent (parties : List (List ℕ)) (count : ℕ) (line : List ℕ) : Type 0 where
   pub short : IsShort line
   pub some : words_of line ≡ [] → ⊥
-  pub none : event_of parties (words_of line) ≡ None
+  pub none : SpellsNoEvent parties (words_of line)
 
 -- the line spells an event behind as many as there may be
 pub record IsOneTooMany (parties : List (List ℕ)) (count : ℕ) (line : List ℕ) : Type 0 where
   pub short : IsShort line
   pub event : Event
-  pub spelled : event_of parties (words_of line) ≡ Some event
+  pub spelled : SpellsEvent parties (words_of line) event
   pub full : count ≡ most_events
 
 abbrev pub IsTooLong : List ℕ → Type 0

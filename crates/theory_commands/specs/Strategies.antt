@@ -1,15 +1,58 @@
 -- Which rules a strategy file holds beside a run file, and why another is refused, line by line.
-use Rattle.std.specs.Prelude.{◌≡◌, ℕ, ◌+◌, ◌*◌, ◌≤◌, ◌<◌, List, ◌↔◌, length, Some, None, Ok, Err}
+use Rattle.std.specs.Prelude.{◌≡◌, ℕ, ◌+◌, ◌*◌, ◌≤◌, ◌<◌, List, [], ◌∷◌, ◌++◌, ◌⊎◌, ◌↔◌, length, Some, None, Ok, Err}
 use Rattle.spec_run.specs.declared.event.Event.{Event}
 use Rattle.spec_run.specs.declared.header.Header.{Header}
-use Rattle.spec_text.specs.Lines.{lines_of}
+use Rattle.spec_text.specs.Lines.{lines_of, words_of}
 use Rattle.spec_text.specs.Limits.{most_run_bytes, most_events}
 use Rattle.spec_tool.specs.declared.rule.Rule.{Rule}
 use Rattle.spec_tool.specs.declared.rule.StrategyFault.{StrategyFault}
+use Rattle.spec_tool.specs.declared.rule.StrategyFault.TheVariants as faults
 use Rattle.spec_tool.specs.AutoText.{size_limit, events_limit, fault_text, strategy_in}
 use Rattle.spec_tool.specs.Reads.{Text}
-use Rattle.spec_tool.specs.Sizes.{rule_line_bytes}
-use Rattle.theory_tool.specs.Strategies.{IsStrategy, HasFault}
+use Rattle.spec_tool.specs.Sizes.{most_rules, rule_line_bytes}
+use Rattle.theory_commands.specs.LineForms.{SpellsRule, SpellsNoRule}
+
+-- ---- lines
+
+-- each of these lines is empty or spells a rule, and these are the rules, in order
+abbrev pub SpellRules : Header → List (List ℕ) → List Rule → Type 0
+SpellRules h [] rules = rules ≡ []
+SpellRules h (line ∷ lines) rules =
+    ((words_of line ≡ []) × SpellRules h lines rules)
+    ⊎ ((first : Rule) × (later : List Rule) × (rules ≡ first ∷ later) × SpellsRule h (words_of line) first × SpellRules h lines later)
+
+-- no more rules than a strategy may have
+pub record SpellStrategy (h : Header) (lines : List (List ℕ)) (rules : List Rule) : Type 0 where
+  pub spelled : SpellRules h lines rules
+  pub few : length rules ≤ most_rules
+
+-- the line has the number m, counted from 1, and those before it are empty or spell rules, none too many; what is wrong is said by how many
+-- rules come before it, and the line
+pub record FirstOfRules (h : Header) (lines : List (List ℕ)) (m : ℕ) (wrong : ℕ → List ℕ → Type 0) : Type 0 where
+  pub before : List (List ℕ)
+  pub line : List ℕ
+  pub after : List (List ℕ)
+  pub in_order : lines ≡ before ++ line ∷ after
+  pub number : m ≡ length before + 1
+  pub rules : List Rule
+  pub spelled : SpellRules h before rules
+  pub few : length rules ≤ most_rules
+  pub fault : wrong (length rules) line
+
+-- the line isn't empty, and spells no rule
+abbrev pub IsNoRule : Header → ℕ → List ℕ → Type 0
+IsNoRule h count line = (words_of line ≡ [] → ⊥) × SpellsNoRule h (words_of line)
+
+-- the line spells a rule behind as many as there may be
+abbrev pub IsRuleTooMany : Header → ℕ → List ℕ → Type 0
+IsRuleTooMany h count line = (rule : Rule) × SpellsRule h (words_of line) rule × (count ≡ most_rules)
+
+-- the first line that is bad, or one rule too many
+abbrev pub HasRuleFault : Header → List (List ℕ) → StrategyFault → Type 0
+HasRuleFault h lines (faults.BadLine m) = FirstOfRules h lines m (IsNoRule h)
+HasRuleFault h lines (faults.Limit m) = FirstOfRules h lines m (IsRuleTooMany h)
+
+-- ---- files
 
 -- the run with an event for each rule has no more events than a run file may have
 abbrev pub HasRoom : List Event → List Rule → Type 0
@@ -21,7 +64,7 @@ Fits run_bytes rules = run_bytes + rule_line_bytes * length rules < most_run_byt
 
 -- the lines spell the rules, and these stay within the limits of a run file
 pub record IsRules (run_bytes : ℕ) (h : Header) (es : List Event) (text : List ℕ) (rules : List Rule) : Type 0 where
-  pub spelled : IsStrategy h (lines_of text) rules
+  pub spelled : SpellStrategy h (lines_of text) rules
   pub room : HasRoom es rules
   pub fits : Fits run_bytes rules
 
@@ -44,11 +87,11 @@ abbrev pub IsRefusedStrategy : ℕ → Header → List Event → Text → Strate
 IsRefusedStrategy run_bytes h es None too_long = Unit {0}
 IsRefusedStrategy run_bytes h es None _ = ⊥
 IsRefusedStrategy run_bytes h es (Some text) too_long = ⊥
-IsRefusedStrategy run_bytes h es (Some text) (first fault) = HasFault h 0 1 (lines_of text) fault
+IsRefusedStrategy run_bytes h es (Some text) (first fault) = HasRuleFault h (lines_of text) fault
 IsRefusedStrategy run_bytes h es (Some text) too_many =
-    (rules : List Rule) × IsStrategy h (lines_of text) rules × (most_events < length es + length rules)
+    (rules : List Rule) × SpellStrategy h (lines_of text) rules × (most_events < length es + length rules)
 IsRefusedStrategy run_bytes h es (Some text) too_much =
-    (rules : List Rule) × IsStrategy h (lines_of text) rules × HasRoom es rules
+    (rules : List Rule) × SpellStrategy h (lines_of text) rules × HasRoom es rules
     × (most_run_bytes ≤ run_bytes + rule_line_bytes * length rules)
 
 -- the same, as it is printed

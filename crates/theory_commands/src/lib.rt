@@ -5,7 +5,10 @@
 ghost use Rattle.theory_commands.specs.Causes.{CausesInFiles};
 ghost use Rattle.theory_commands.specs.Commands.{CommandsShow, GeneratedSizesAreTaken};
 ghost use Rattle.theory_commands.specs.ContractFiles.{ContractsAreRead};
+ghost use Rattle.theory_commands.specs.Leave.{LeaveIsMeant};
+ghost use Rattle.theory_commands.specs.LineForms.{LinesAreSpelled};
 ghost use Rattle.theory_commands.specs.PsbtFiles.{PsbtFilesAreRead};
+ghost use Rattle.theory_commands.specs.Refused.{FilesAreJudged};
 ghost use Rattle.theory_commands.specs.RunFiles.{RunFilesAreRead};
 ghost use Rattle.theory_commands.specs.Strategies.{StrategyFilesAreRead};
 ghost use Rattle.theory_psbt.specs.Listed.{SignersForEach};
@@ -18,6 +21,18 @@ ghost use Rattle.theory_weights.specs.Sizes.{WeightsBySizes};
 use theory_psbt::signers_for_each;
 use theory_script::{money_is_kept, paths_are_listed, paths_in_order, scripts_are_listed};
 use theory_weights::{totals_bound_runs, weights_add_up, weights_are_bounds, weights_by_sizes};
+
+/// An honest party's deposit is spent by its leave exactly where the event is its own gift, or the transaction is that of a contract
+/// for which it was done before that the party started or endorsed it.
+pub fn leave_is_meant()
+    ensures { LeaveIsMeant }
+{}
+
+/// The words of a line of a run file or a strategy file are read as the event, the part of a header or the rule that they spell by the
+/// form of such lines, and as nothing else.
+pub fn lines_are_spelled()
+    ensures { LinesAreSpelled }
+{}
 
 /// A run file is read as the run that its lines spell, and is refused for its size, or for its first
 /// line that is bad or exceeds a limit.
@@ -87,6 +102,12 @@ pub fn commands_show()
 /// or what is judged or tried after it.
 pub fn causes_are_in_files()
     ensures { CausesInFiles }
+{}
+
+/// Of a run file and contract files the first that is refused is answered, with its place and why, and those are taken that hold a run
+/// and contracts, for every program that takes such files.
+pub fn files_are_judged()
+    ensures { FilesAreJudged }
 {}
 
 /// The size of `make` in words that are a command is one for which the theorems on generated runs hold.

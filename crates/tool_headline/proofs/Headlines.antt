@@ -12,6 +12,7 @@ use Rattle.theory_tool.specs.Statuses.{StatusesTheorem}
 use Rattle.theory_play_text.specs.Statements.{PlaysAreRead}
 use Rattle.theory_commands.specs.Causes.{CausesInFiles}
 use Rattle.theory_commands.specs.Commands.{CommandsShow}
+use Rattle.theory_commands.specs.Leave.{LeaveIsMeant}
 use Rattle.tool_shell.specs.Around.{Around}
 use Rattle.tool_shell.specs.Answered.{GivesUp}
 use Rattle.tool_shell.specs.Asked.{are_reads}
@@ -29,6 +30,7 @@ pub record Theorems : Type 0 where
   pub ends : CallsEnd
   pub headline : HeadlineTheorem
   pub kept : RunsAreKept
+  pub leave : LeaveIsMeant
   pub told : PlaysAreRead
   pub commands : CommandsShow
   pub files : CausesInFiles
@@ -58,7 +60,7 @@ module _ (t : Theorems) (hash : List ℕ → List ℕ) (bytes : HashesBytes hash
     serves = inl (record {
       answers = a;
       caused = caused t.causes t.statuses t.files hash command a.reads;
-      shows = shows t.headline t.kept t.told t.commands hash bytes command a.reads few (made_of command a.reads a.made);
+      shows = shows t.headline t.kept t.leave t.told t.commands hash bytes command a.reads few (made_of command a.reads a.made);
     });
     usage = λ e. usage_is a.reads (ended_with (tool_answer hash command a.reads) a.ends.went 2 (λ f. absurd (cc)) (sym e ∙ a.ends.status_is));
     unread =

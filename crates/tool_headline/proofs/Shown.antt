@@ -10,7 +10,7 @@ use Rattle.spec_text.specs.Refusals.{contract_of, run_of}
 use Rattle.spec_text.specs.Played.{play_text}
 use Rattle.spec_tool.specs.Reads.{Asked, Read, got, too_long, failed, Text, texts_read, are_made, fits, all_fit}
 use Rattle.spec_tool.specs.Commands.{Command, check, play, plan, make, psbt_of, psbt_shown, psbt_joined, weigh, audit, auto}
-use Rattle.spec_tool.specs.Commands.{Printed, onto_judged, contracts_from, both_judged, run_answer, play_answer, files_of, contract_file}
+use Rattle.spec_tool.specs.Commands.{Printed, onto_judged, contracts_from, both_judged, run_answer, play_answer, files_of, contract_file, setup_of}
 use Rattle.spec_tool.specs.Answers.{tool_answer, tool_reads, read_answer, text_answer, contracts_in}
 use Rattle.spec_tool.specs.Headline as shown
 use Rattle.theory_play_text.specs.Report.{report_of}
@@ -18,6 +18,7 @@ use Rattle.theory_play_text.specs.Statements.{PlaysAreRead}
 use Rattle.spec_tool.specs.Headline.{HeadlineTheorem}
 use Rattle.theory_tool.specs.Kept.{RunsAreKept}
 use Rattle.theory_commands.specs.Commands.{CommandsShow}
+use Rattle.theory_commands.specs.Leave.{LeaveIsMeant}
 use Rattle.tool_headline.specs.Headline.{texts_of, ShowsRun, ShowsTexts, ShowsFiles, Shows}
 use Rattle.tool_command.specs.Seen.{HasFew}
 
@@ -68,8 +69,8 @@ texts_fit (file ∷ files) (failed ∷ reads) e = tt
 
 -- ---- the headline
 
-module _ (theorem : HeadlineTheorem) (kept : RunsAreKept) (told : PlaysAreRead) (hash : List ℕ → List ℕ) (bytes : HashesBytes hash)
-    (run : List ℕ) (contracts : List (List ℕ)) (few : length contracts ≤ most_contracts) where
+module _ (theorem : HeadlineTheorem) (kept : RunsAreKept) (leave : LeaveIsMeant) (told : PlaysAreRead) (hash : List ℕ → List ℕ)
+    (bytes : HashesBytes hash) (run : List ℕ) (contracts : List (List ℕ)) (few : length contracts ≤ most_contracts) where
   of_texts : (texts : List Text) → length texts ≡ length (files_of (play run contracts)) → ShowsRun hash texts (text_answer hash (play run contracts) texts)
   of_texts texts count run_text contract_texts r adverts e valid well_formed =
       let here : length texts ≡ suc (length contract_texts) = ap length e ∙ ap (λ (m : ℕ). suc m) (length-map contract_texts (λ (t : List ℕ). Some t)) in
@@ -80,6 +81,8 @@ module _ (theorem : HeadlineTheorem) (kept : RunsAreKept) (told : PlaysAreRead) 
         subst (λ (p : Printed). shown.Headline hash run_text contract_texts p) (sym same)
             (theorem hash bytes run_text contract_texts r adverts valid well_formed few_texts),
         kept hash bytes run_text contract_texts r adverts valid well_formed few_texts,
+        λ opens. leave.throughout (setup_of hash r adverts) r.events
+            ((kept hash bytes run_text contract_texts r adverts valid well_formed few_texts).safe opens).honest_deposits,
         ap (λ (p : Printed). report_of r.header.parties p.text) same
             ∙ told hash bytes run_text contract_texts r adverts valid well_formed few_texts,
       )
@@ -101,22 +104,22 @@ module _ (commands : CommandsShow) (hash : List ℕ → List ℕ) (bytes : Hashe
       → ShowsFiles hash command (texts_read reads) (tool_answer hash (Some command) reads)
   of_command command reads made = of_files command (texts_read reads) (texts_fit (files_of command) reads made)
 
-pub shows : HeadlineTheorem → RunsAreKept → PlaysAreRead → CommandsShow → (hash : List ℕ → List ℕ) → HashesBytes hash
+pub shows : HeadlineTheorem → RunsAreKept → LeaveIsMeant → PlaysAreRead → CommandsShow → (hash : List ℕ → List ℕ) → HashesBytes hash
     → (command : Option Command) (reads : List Read) → HasFew command → tool_reads command reads ≡ true
     → Shows hash command reads (tool_answer hash command reads)
-shows theorem kept told commands hash bytes None reads few made = tt
-shows theorem kept told commands hash bytes (Some (play run contracts)) reads few made =
-    of_play theorem kept told hash bytes run contracts few reads made
-shows theorem kept told commands hash bytes (Some (check contract)) reads few made = of_command commands hash bytes (check contract) reads made
-shows theorem kept told commands hash bytes (Some (plan run contract)) reads few made = of_command commands hash bytes (plan run contract) reads made
-shows theorem kept told commands hash bytes (Some (make number size)) reads few made = of_command commands hash bytes (make number size) reads made
-shows theorem kept told commands hash bytes (Some (psbt_of run contract which)) reads few made =
+shows theorem kept leave told commands hash bytes None reads few made = tt
+shows theorem kept leave told commands hash bytes (Some (play run contracts)) reads few made =
+    (of_play theorem kept leave told hash bytes run contracts few reads made, of_command commands hash bytes (play run contracts) reads made)
+shows theorem kept leave told commands hash bytes (Some (check contract)) reads few made = of_command commands hash bytes (check contract) reads made
+shows theorem kept leave told commands hash bytes (Some (plan run contract)) reads few made = of_command commands hash bytes (plan run contract) reads made
+shows theorem kept leave told commands hash bytes (Some (make number size)) reads few made = of_command commands hash bytes (make number size) reads made
+shows theorem kept leave told commands hash bytes (Some (psbt_of run contract which)) reads few made =
     of_command commands hash bytes (psbt_of run contract which) reads made
-shows theorem kept told commands hash bytes (Some (psbt_shown file)) reads few made = of_command commands hash bytes (psbt_shown file) reads made
-shows theorem kept told commands hash bytes (Some (psbt_joined first second)) reads few made =
+shows theorem kept leave told commands hash bytes (Some (psbt_shown file)) reads few made = of_command commands hash bytes (psbt_shown file) reads made
+shows theorem kept leave told commands hash bytes (Some (psbt_joined first second)) reads few made =
     of_command commands hash bytes (psbt_joined first second) reads made
-shows theorem kept told commands hash bytes (Some (weigh run contract)) reads few made = of_command commands hash bytes (weigh run contract) reads made
-shows theorem kept told commands hash bytes (Some (audit run contract file)) reads few made =
+shows theorem kept leave told commands hash bytes (Some (weigh run contract)) reads few made = of_command commands hash bytes (weigh run contract) reads made
+shows theorem kept leave told commands hash bytes (Some (audit run contract file)) reads few made =
     of_command commands hash bytes (audit run contract file) reads made
-shows theorem kept told commands hash bytes (Some (auto run contract strategy)) reads few made =
+shows theorem kept leave told commands hash bytes (Some (auto run contract strategy)) reads few made =
     of_command commands hash bytes (auto run contract strategy) reads made

@@ -1,7 +1,11 @@
 -- What the program promises, from its words to its status.
 use Rattle.std.specs.Prelude.{◌≡◌, ℕ, List, [], ◌∷◌, map, true, false, ◌⊎◌, ◌↔◌, Option, Some, None, is_some, option_map, Ok}
 use Rattle.spec_terms.specs.Advert.{Advert}
+use Rattle.spec_run.specs.declared.event.Event.{Event}
 use Rattle.spec_run.specs.declared.event.Run.{Run}
+use Rattle.spec_run.specs.Event.{opening_collision}
+use Rattle.spec_run.specs.Setup.{Setup}
+use Rattle.spec_run.specs.Statements.{HoldsThroughout}
 use Rattle.spec_text.specs.Refusals.{run_of}
 use Rattle.spec_tool.specs.Reads.{Read, Text, texts_read}
 use Rattle.spec_tool.specs.Commands.{Command, play, files_of, contracts_from, setup_of, Printed}
@@ -14,6 +18,7 @@ use Rattle.theory_play_text.specs.Report.{report_of}
 use Rattle.theory_play_text.specs.Statements.{shown_run}
 use Rattle.theory_commands.specs.Causes.{HasCausesInFiles}
 use Rattle.theory_commands.specs.Commands.{ShowsCommand}
+use Rattle.theory_commands.specs.Leave.{goes_by_leave}
 use Rattle.bm_io.specs.Counts.{RoseBy}
 use Rattle.spec_run.specs.Conditions.{HashesBytes}
 use Rattle.tool_shell.specs.Around.{Around}
@@ -70,28 +75,36 @@ Caused hash (Some command) reads printed = CausedByTexts hash command (texts_rea
 abbrev pub texts_of : List (List ℕ) → List Text
 texts_of texts = map Some texts
 
+-- unless the opening collides, an honest party's live deposit goes only by its gift, or by a contract's transaction after it started or
+-- endorsed the contract
+abbrev pub GoesByLeave : Setup → List Event → Type 0
+GoesByLeave s es = opening_collision s ≡ None → HoldsThroughout s (goes_by_leave s) es
+
 -- where `play` takes a run and its contracts, its answer shows the ledger's run of all events with a legal run of the calculus beside
 -- it, or a collision or guessed secret at its end; the run keeps all that the theorems on runs say of money, refusals, deposits,
--- beginnings and worlds; and the text is read as all that the run shows, so that nothing of it is left out
+-- beginnings and worlds, and an honest party's deposit goes by its leave; and the text is read as all that the run shows, so that nothing of
+-- it is left out
 abbrev pub ShowsRun : (List ℕ → List ℕ) → List Text → Printed → Type 0
 ShowsRun hash texts printed =
     (run_text : List ℕ) (contract_texts : List (List ℕ)) (run : Run) (contracts : List Advert)
     → texts ≡ Some run_text ∷ texts_of contract_texts → run_of run_text ≡ Ok run → contracts_from 0 contract_texts ≡ Ok contracts
     → shown.Headline hash run_text contract_texts printed × KeepsRun (setup_of hash run contracts) run.events
+    × GoesByLeave (setup_of hash run contracts) run.events
     × (report_of run.header.parties printed.text ≡ Some (shown_run (setup_of hash run contracts) run.events))
 
 abbrev pub ShowsTexts : (List ℕ → List ℕ) → Option (List Text) → Printed → Type 0
 ShowsTexts hash None printed = Unit {0}
 ShowsTexts hash (Some texts) printed = ShowsRun hash texts printed
 
--- what every other command shows of the texts of its files
+-- what every command shows of the texts of its files; of `play`, the first that is refused, with its place and why
 abbrev pub ShowsFiles : (List ℕ → List ℕ) → Command → Option (List Text) → Printed → Type 0
 ShowsFiles hash command None printed = Unit {0}
 ShowsFiles hash command (Some texts) printed = ShowsCommand hash command texts printed
 
 abbrev pub Shows : (List ℕ → List ℕ) → Option Command → List Read → Printed → Type 0
 Shows hash None reads printed = Unit {0}
-Shows hash (Some (play run contracts)) reads printed = ShowsTexts hash (texts_read reads) printed
+Shows hash (Some (play run contracts)) reads printed =
+    ShowsTexts hash (texts_read reads) printed × ShowsFiles hash (play run contracts) (texts_read reads) printed
 Shows hash (Some command) reads printed = ShowsFiles hash command (texts_read reads) printed
 
 -- ---- the headline

@@ -8,6 +8,7 @@ returns c = headlines (record {
   ends = c.requires.ends;
   headline = c.requires.headline;
   kept = c.requires.kept;
+  leave = c.requires.leave;
   told = c.requires.told;
   commands = c.requires.commands;
   files = c.requires.files;

@@ -26,3 +26,4 @@ pub mod FirstCommits
 pub mod FirstAdvert
 pub mod FirstHeld
 pub mod FirstEvents
+pub mod Asked

@@ -13,3 +13,4 @@ pub mod Listed
 pub mod Together
 pub mod Hands
 pub mod Leads
+pub mod Asked

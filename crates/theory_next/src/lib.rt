@@ -2,6 +2,7 @@
 //! lines begin the contract. Each is the contract of a function that does nothing.
 #![tactic(auto)]
 
+ghost use Rattle.theory_next.specs.Asked.{EventsAreAsked};
 ghost use Rattle.theory_next.specs.Candidates.{CanIsMeant, OffersAreCandidates, OffersAreSaid};
 ghost use Rattle.theory_next.specs.FirstEvents.{FirstEventsGoThrough};
 ghost use Rattle.theory_next.specs.FirstLines.{FirstLinesAreARun};
@@ -21,6 +22,12 @@ ghost use Rattle.theory_next.specs.Together.{LinesNameAll};
 /// An event is said to be one that can come exactly where it is done or accepted, and halts nothing.
 pub fn can_is_meant()
     ensures { CanIsMeant }
+{}
+
+/// Exactly those events are asked that are of the kinds of next events, for each contract, party, secret, live output and branch; and an
+/// event is said to be one that can come, is refused with a reason or halts the run exactly where it does.
+pub fn events_are_asked()
+    ensures { EventsAreAsked }
 {}
 
 /// Everything that may be taken by the calculus is among the candidates.

@@ -7,6 +7,7 @@ use Rattle.spec_tool.specs.Reads.{Asked, Read, Text, text_read, texts_read, are_
 use Rattle.spec_tool.specs.Commands.{contract_file, run_file}
 use Rattle.spec_next.specs.declared.form.Form.{Form}
 use Rattle.spec_next.specs.NextAnswer.{NextCommand, begins, continues, next_files, next_words, next_answer, next_texts, form_of, party_of, read_next}
+use Rattle.theory_commands.specs.Refused.{FilesAreJudged}
 use Rattle.theory_tool.proofs.Statuses.{apart}
 use Rattle.tool_shell.specs.Around.{Around}
 use Rattle.tool_shell.specs.Answered.{GivesUp}
@@ -15,6 +16,7 @@ use Rattle.tool_shell.proofs.Ended.{ended_with, write_failed}
 use Rattle.tool_shell.proofs.Seen.{some_command}
 use Rattle.bitml_next.specs.Told.{Answers, AnswersOrGivesUp, CausedByTexts, Caused, Tells, TellsAll}
 use Rattle.bitml_next.proofs.Causes.{causes, known}
+use Rattle.bitml_next.proofs.Files.{in_files}
 use Rattle.bitml_next.proofs.Shown.{Theorems, shows}
 
 -- ---- every command reads files
@@ -78,14 +80,15 @@ of_reads hash None reads made =
     record { usage = λ n. refl; unread = λ n. absurd (omega (arith, n)); written = λ n. omega (arith, n); memory = λ n. omega (arith, n) }
 of_reads hash (Some command) reads made = of_texts hash command reads (texts_read reads) refl (texts_there command reads made)
 
-caused_by : (hash : List ℕ → List ℕ) (form : Form) (party : Option (List ℕ)) (o : Option (List Text))
-    → CausedByTexts hash o (read_next hash form party o)
-caused_by hash form party None = (refl, refl)
-caused_by hash form party (Some texts) = causes hash form party texts
+module _ (t : FilesAreJudged) (hash : List ℕ → List ℕ) where
+  caused_by : (form : Form) (party : Option (List ℕ)) (o : Option (List Text)) → CausedByTexts hash o (read_next hash form party o)
+  caused_by form party None = (refl, refl)
+  caused_by form party (Some texts) =
+      let c = causes hash form party texts in (c, in_files t hash texts (next_texts hash form party texts).status c)
 
-caused : (hash : List ℕ → List ℕ) (command : Option NextCommand) (reads : List Read) → Caused hash command reads (next_answer hash command reads)
-caused hash None reads = refl
-caused hash (Some command) reads = caused_by hash (form_of command) (party_of command) (texts_read reads)
+  caused : (command : Option NextCommand) (reads : List Read) → Caused hash command reads (next_answer hash command reads)
+  caused None reads = refl
+  caused (Some command) reads = caused_by (form_of command) (party_of command) (texts_read reads)
 
 -- ---- the call
 
@@ -97,7 +100,7 @@ module _ (t : Theorems) (hash : List ℕ → List ℕ) (bytes : HashesBytes hash
       record {
         serves = inl (record {
           answers = a;
-          caused = caused hash (next_words words) a.reads;
+          caused = caused t.files hash (next_words words) a.reads;
           shows = shows t hash bytes (next_words words) a.reads;
         });
         usage = λ e. s.usage (ended_with printed a.ends.went 2 (λ f. absurd (cc)) (sym e ∙ a.ends.status_is));

@@ -1,5 +1,6 @@
 mod Causes
 mod Few
+mod Files
 mod Headlines
 mod Replied
 mod Shown

@@ -28,7 +28,8 @@ use Rattle.spec_next.specs.declared.form.Form.{Form}
 use Rattle.spec_next.specs.Foreseen.{foreseen_collision, unless_collided, next_printed}
 use Rattle.spec_next.specs.Forms.{next_text}
 use Rattle.spec_next.specs.NextAnswer.{NextCommand, form_of, party_of, begins_judged, next_answer, next_texts, read_next}
-use Rattle.theory_next.specs.Candidates.{CanIsMeant, OffersAreSaid}
+use Rattle.theory_next.specs.Asked.{EventsAreAsked}
+use Rattle.theory_next.specs.Candidates.{OffersAreSaid}
 use Rattle.theory_next.specs.FirstLines.{FirstLinesAreARun}
 use Rattle.theory_next.specs.FirstEvents.{FirstEventsGoThrough}
 use Rattle.theory_next.specs.FirstRun.{FirstRunIsARun}
@@ -43,14 +44,16 @@ use Rattle.theory_next.specs.Ready.{ReadyComesTheorem}
 use Rattle.theory_next.specs.Together.{LinesNameAll}
 use Rattle.theory_next.specs.Waits.{WaitsAreMeant}
 use Rattle.theory_next.specs.Requirements.{RequirementsAreExactTheorem}
+use Rattle.theory_commands.specs.Refused.{FilesAreJudged}
 use Rattle.theory_text.proofs.Within.Adverts.{read_is_readable}
 use Rattle.theory_tool.proofs.Runs.{opens_calmly}
+use Rattle.bitml_next.proofs.Files.{says_refusals}
 use Rattle.bitml_next.specs.Shown.{SaysOfRun, ShowsRun, ShowsContract, ShowsTexts, Shows}
 
 -- the theorems that are cited
 pub record Theorems : Type 0 where
   pub valid : ValidRunTheorem
-  pub meant : CanIsMeant
+  pub asked : EventsAreAsked
   pub said : OffersAreSaid
   pub once : CandidatesStandOnce
   pub outstanding : RequirementsAreExactTheorem
@@ -66,6 +69,7 @@ pub record Theorems : Type 0 where
   pub lines : FirstLinesAreARun
   pub run : FirstRunIsARun
   pub go : FirstEventsGoThrough
+  pub files : FilesAreJudged
 
 -- ---- a contract that is taken is well-formed
 
@@ -135,7 +139,8 @@ module _ (form : Form) (party : Option (List ℕ)) (s : Setup) (es : List Event)
   says : Theorems → (text : List ℕ) → IsRun s es → Told form party s es text → SaysOfRun form party s es text
   says t text run told = record {
     told = told.told;
-    meant = λ e. t.meant s (last_world s es) e;
+    meant = λ e. t.asked.meant s (last_world s es) e;
+    asked = λ k advert e. t.asked.asked s (last_configuration s es) (last_world s es) k advert e;
     offered = λ offer i. t.said s es run offer i;
     once = t.once s es run;
     outstanding = λ e. t.outstanding s (last_configuration s es) (last_world s es) e;
@@ -183,7 +188,11 @@ module _ (t : Theorems) (hash : List ℕ → List ℕ) (bytes : HashesBytes hash
 shows_texts : Theorems → (hash : List ℕ → List ℕ) → HashesBytes hash → (form : Form) (party : Option (List ℕ)) (o : Option (List Text))
     → ShowsTexts hash form party o (read_next hash form party o)
 shows_texts t hash bytes form party None = tt
-shows_texts t hash bytes form party (Some texts) = (shows_run t hash bytes form party texts, shows_contract t hash bytes form party texts)
+shows_texts t hash bytes form party (Some texts) = (
+  shows_run t hash bytes form party texts,
+  shows_contract t hash bytes form party texts,
+  says_refusals t.files hash form party texts,
+)
 
 pub shows : Theorems → (hash : List ℕ → List ℕ) → HashesBytes hash → (command : Option NextCommand) (reads : List Read)
     → Shows hash command reads (next_answer hash command reads)

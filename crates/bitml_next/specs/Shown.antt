@@ -22,13 +22,12 @@ use Rattle.spec_tool.specs.Reads.{Read, Text, texts_read}
 use Rattle.spec_tool.specs.Commands.{Printed, contracts_from, setup_of}
 use Rattle.spec_next.specs.declared.form.Form.{Form}
 use Rattle.spec_next.specs.declared.outlook.Outlook.{Outlook}
-use Rattle.spec_next.specs.declared.outlook.Ruling.TheVariants as rulings
-use Rattle.spec_next.specs.Candidates.{all_candidates}
+use Rattle.spec_next.specs.Candidates.{candidates, all_candidates}
 use Rattle.spec_next.specs.FirstLines.{begin_text, first_lines, first_run, first_events}
 use Rattle.spec_next.specs.NextAnswer.{NextCommand, form_of, party_of}
 use Rattle.spec_next.specs.Forms.{next_text}
-use Rattle.spec_next.specs.Prospects.{ruling}
-use Rattle.theory_next.specs.Candidates.{GoesThrough, IsSaid}
+use Rattle.theory_next.specs.Asked.{RulingIsMeant, IsAsked}
+use Rattle.theory_next.specs.Candidates.{IsSaid}
 use Rattle.theory_next.specs.FirstEvents.{AreLong, GoesThroughOrHalts}
 use Rattle.theory_next.specs.FirstRun.{first_setup, HasRoom, AreSecrets}
 use Rattle.theory_next.specs.Hands.{HandsCount}
@@ -42,6 +41,7 @@ use Rattle.theory_next.specs.Ready.{ReadyComes}
 use Rattle.theory_next.specs.Together.{LinesNameAll}
 use Rattle.theory_next.specs.Waits.{WaitsForThose}
 use Rattle.theory_next.specs.Requirements.{RequirementsAreExact}
+use Rattle.bitml_next.specs.Files.{SaysRefusals}
 
 -- ---- after a run
 
@@ -49,8 +49,13 @@ use Rattle.theory_next.specs.Requirements.{RequirementsAreExact}
 pub record SaysOfRun (form : Form) (party : Option (List ℕ)) (s : Setup) (es : List Event) (text : List ℕ) : Type 0 where
   -- it is the text of what may come next in this form, for all or for this party
   pub told : text ≡ next_text form party s es
-  -- an event can come exactly where it is done or accepted, and halts nothing
-  pub meant : (e : Event) → ruling s (last_world s es) e ≡ rulings.Can ↔ GoesThrough s (last_world s es) e
+  -- an event can come exactly where it is done or accepted, and halts nothing; it can't, with a reason, exactly where it is refused for that;
+  -- and halts exactly where it halts the run
+  pub meant : (e : Event) → RulingIsMeant s (last_world s es) e
+  -- of each contract exactly the events of these kinds are asked, for each party, secret, live output and branch
+  pub asked : (k : ℕ) (advert : Advert) (e : Event)
+      → Contains (candidates s (last_configuration s es) (last_world s es) k advert) e
+      ↔ IsAsked s (last_configuration s es) (last_world s es) k advert e
   -- everything that the calculus offers is said to come, unless it halts the run
   pub offered : (offer : Offer) → Contains (offers (last_configuration s es)) offer
       → IsSaid s (last_configuration s es) (last_world s es) offer.event
@@ -113,7 +118,8 @@ ShowsContract hash texts printed =
 
 abbrev pub ShowsTexts : (List ℕ → List ℕ) → Form → Option (List ℕ) → Option (List Text) → Printed → Type 0
 ShowsTexts hash form party None printed = Unit {0}
-ShowsTexts hash form party (Some texts) printed = ShowsRun hash form party texts printed × ShowsContract hash texts printed
+ShowsTexts hash form party (Some texts) printed =
+    ShowsRun hash form party texts printed × ShowsContract hash texts printed × SaysRefusals texts printed
 
 abbrev pub Shows : (List ℕ → List ℕ) → Option NextCommand → List Read → Printed → Type 0
 Shows hash None reads printed = Unit {0}

@@ -11,6 +11,7 @@ use Rattle.tool_shell.specs.Answered.{AnswersBy, AnswersByOrGivesUp, GivesUp}
 use Rattle.bitml_next.specs.declared.call.NextCall.{NextCall}
 use Rattle.bitml_next.specs.declared.call.NextCall.TheVariants as calls
 use Rattle.bitml_next.specs.Causes.{HasCauses}
+use Rattle.bitml_next.specs.Files.{HasCausesInFiles}
 use Rattle.bitml_next.specs.Shown.{Shows}
 
 -- ---- the call
@@ -38,10 +39,11 @@ AnswersOrGivesUp hash command before now status =
 
 -- ---- causes
 
--- of what was read; a read that failed is answered by 3 and nothing
+-- of what was read, as the definition reads the files and as their tokens and lines spell them; a read that failed is answered by 3 and
+-- nothing
 abbrev pub CausedByTexts : (List ℕ → List ℕ) → Option (List Text) → Printed → Type 0
 CausedByTexts hash None printed = (printed.status ≡ 3) × (printed.text ≡ [])
-CausedByTexts hash (Some texts) printed = HasCauses hash texts printed.status
+CausedByTexts hash (Some texts) printed = HasCauses hash texts printed.status × HasCausesInFiles hash texts printed.status
 
 -- of reads; words that are no command are answered by 2
 abbrev pub Caused : (List ℕ → List ℕ) → Option NextCommand → List Read → Printed → Type 0

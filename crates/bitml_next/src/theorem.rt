@@ -1,7 +1,9 @@
 //! What is known of answers.
 
 ghost use Rattle.spec_tool.specs.Statements.{ValidRunTheorem};
-ghost use Rattle.theory_next.specs.Candidates.{CanIsMeant, OffersAreSaid};
+ghost use Rattle.theory_commands.specs.Refused.{FilesAreJudged};
+ghost use Rattle.theory_next.specs.Asked.{EventsAreAsked};
+ghost use Rattle.theory_next.specs.Candidates.{OffersAreSaid};
 ghost use Rattle.theory_next.specs.FirstEvents.{FirstEventsGoThrough};
 ghost use Rattle.theory_next.specs.FirstLines.{FirstLinesAreARun};
 ghost use Rattle.theory_next.specs.FirstRun.{FirstRunIsARun};
@@ -18,8 +20,9 @@ ghost use Rattle.theory_next.specs.Waits.{WaitsAreMeant};
 ghost use Rattle.theory_next.specs.Requirements.{RequirementsAreExactTheorem};
 ghost use Rattle.bitml_next.specs.Told.{TellsAll};
 
+use theory_commands::files_are_judged;
 use theory_next::{
-    can_is_meant, candidates_stand_once, first_events_go_through, first_lines_are_a_run,
+    candidates_stand_once, events_are_asked, first_events_go_through, first_lines_are_a_run,
     first_run_is_a_run, hands_count, leads_are_effects, lines_name_all, met_alone, never_is_said,
     nothing_is_left_out, offers_are_said, ready_comes, refusals_last, requirements_are_exact,
     waits_are_meant,
@@ -29,7 +32,7 @@ use theory_tool::valid_runs;
 // A call that gives the defined answer or gives up tells all that is known of it, where the theorems hold.
 fn by_theorems()
     requires valid { ValidRunTheorem }
-    requires meant { CanIsMeant }
+    requires asked { EventsAreAsked }
     requires said { OffersAreSaid }
     requires once { CandidatesStandOnce }
     requires outstanding { RequirementsAreExactTheorem }
@@ -45,16 +48,18 @@ fn by_theorems()
     requires lines { FirstLinesAreARun }
     requires run { FirstRunIsARun }
     requires go { FirstEventsGoThrough }
+    requires files { FilesAreJudged }
     ensures { TellsAll }
 {}
 
 /// A call that gives the defined answer, or gives up as memory ran out, tells all that is known of it: each status comes exactly by its
-/// cause, and what is said of a run, or written of the first lines of one, is what the theorems say.
+/// cause, as the definition reads the files and as their tokens and lines spell them; a file that is refused is said, the first of them; and
+/// what is said of a run, or written of the first lines of one, is what the theorems say.
 pub(crate) fn answers_tell_all()
     ensures { TellsAll }
 {
     valid_runs();
-    can_is_meant();
+    events_are_asked();
     offers_are_said();
     candidates_stand_once();
     requirements_are_exact();
@@ -70,5 +75,6 @@ pub(crate) fn answers_tell_all()
     first_lines_are_a_run();
     first_run_is_a_run();
     first_events_go_through();
+    files_are_judged();
     by_theorems();
 }

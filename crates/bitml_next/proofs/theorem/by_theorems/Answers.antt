@@ -4,7 +4,7 @@ use Rattle.bitml_next.proofs.theorem.by_theorems.Goals as goal
 pub returns : goal.returns
 returns c = tells_all (record {
   valid = c.requires.valid;
-  meant = c.requires.meant;
+  asked = c.requires.asked;
   said = c.requires.said;
   once = c.requires.once;
   outstanding = c.requires.outstanding;
@@ -20,4 +20,5 @@ returns c = tells_all (record {
   lines = c.requires.lines;
   run = c.requires.run;
   go = c.requires.go;
+  files = c.requires.files;
 })

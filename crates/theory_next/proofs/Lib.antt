@@ -27,3 +27,4 @@ pub mod FirstAdvert
 pub mod FirstHeld
 pub mod FirstEvents
 pub mod Asked
+pub mod Others

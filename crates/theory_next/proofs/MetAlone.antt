@@ -207,14 +207,14 @@ module _ (s : Setup) (es : List Event) (run : IsRun s es) (on : first_halt s es 
   -- ---- an authorisation
 
   module _ (party : List ℕ) (n i : ℕ) (declared : is_declared s party ≡ true) where
-    abbrev signing : Event
+    abbrev pub signing : Event
     signing = events.Authorise party n i
 
-    abbrev signed_world : World
+    abbrev pub signed_world : World
     signed_world = with_pairs w (authorising_pairs s w party (live_position_at w n) i)
 
     module _ (b : term.Guarded) (here : branch_at g n i ≡ Some b) (among : is_among party (asks b) ≡ true) where
-      is_done : pending s w signing ≡ done signed_world []
+      pub is_done : pending s w signing ≡ done signed_world []
       is_done =
           let h = branch_held n i b here in
           let l : branch_if_live s (live_position_at w n) i ≡ Some b = ap (λ p. branch_if_live s p i) h.1 ∙ h.2 in

@@ -14,3 +14,4 @@ pub mod Together
 pub mod Hands
 pub mod Leads
 pub mod Asked
+pub mod Others

@@ -14,6 +14,7 @@ ghost use Rattle.theory_next.specs.Listed.{NothingIsLeftOut};
 ghost use Rattle.theory_next.specs.MetAlone.{MetAloneTheorem};
 ghost use Rattle.theory_next.specs.Never.{NeverIsSaid};
 ghost use Rattle.theory_next.specs.Once.{CandidatesStandOnce};
+ghost use Rattle.theory_next.specs.Others.{OthersComeTheorem};
 ghost use Rattle.theory_next.specs.Ready.{ReadyComesTheorem};
 ghost use Rattle.theory_next.specs.Waits.{WaitsAreMeant};
 ghost use Rattle.theory_next.specs.Requirements.{RequirementsAreExactTheorem};
@@ -54,6 +55,12 @@ pub fn requirements_are_exact()
 /// it halts the run: so of a beginning or a branch that can't come something is always missing.
 pub fn ready_comes()
     ensures { ReadyComesTheorem }
+{}
+
+/// After a run that doesn't halt, an endorsement or a reveal for which nothing is missing, and each authorisation that is asked, can come,
+/// unless it halts the run.
+pub fn others_come()
+    ensures { OthersComeTheorem }
 {}
 
 /// After a run that doesn't halt, where an authorisation or a height alone is missing for a branch, the event that meets it

@@ -1,0 +1,55 @@
+-- What is claimed of commitments, endorsements, signatures of initial transactions, reveals and authorisations: those for which nothing is said
+-- to be missing can come, unless they halt the run.
+use Rattle.std.specs.Prelude.{◌≡◌, ℕ, List, [], true, None, Some}
+use Rattle.std.specs.List.{Contains}
+use Rattle.spec_data.specs.Lists.{is_among}
+use Rattle.spec_terms.specs.Advert.{Advert}
+use Rattle.spec_terms.specs.Core.{asks}
+use Rattle.spec_terms.specs.Parties.{participants}
+use Rattle.spec_terms.specs.Precondition.{secrets}
+use Rattle.spec_terms.specs.Term as term
+use Rattle.spec_calculus.specs.Beginning.{contract_at}
+use Rattle.spec_calculus.specs.Steps.{branch_at}
+use Rattle.spec_run.specs.declared.event.Event.{Event}
+use Rattle.spec_run.specs.declared.event.Event.TheVariants as events
+use Rattle.spec_run.specs.Setup.{Setup, is_declared, is_honest}
+use Rattle.spec_run.specs.Translation.{last_configuration, last_world, first_halt}
+use Rattle.spec_run.specs.Statements.{IsRun}
+use Rattle.spec_next.specs.Prospects.{is_ahead, prospect}
+use Rattle.theory_next.specs.Ready.{CanUnlessHalts}
+
+-- nothing is said to be missing for the event
+abbrev pub NothingSaid : Setup → List Event → Event → Type 0
+NothingSaid s es e = (prospect s (last_configuration s es) (last_world s es) e).requirements ≡ []
+
+-- it can come after the run, unless it halts that
+abbrev pub ComesAfter : Setup → List Event → Event → Type 0
+ComesAfter s es e = CanUnlessHalts s (last_world s es) e
+
+-- this is the contract's number
+abbrev pub IsNumberOf : Setup → List Event → ℕ → Advert → Type 0
+IsNumberOf s es k advert = contract_at (last_configuration s es).contracts k ≡ Some advert
+
+pub record OthersCome (s : Setup) (es : List Event) : Type 0 where
+  -- a participant that hasn't committed can, without digests
+  pub commitments : (k : ℕ) (advert : Advert) (party : List ℕ) → IsNumberOf s es k advert → Contains (participants advert) party
+      → is_ahead s (last_world s es) (events.Commit k party []) ≡ true → NothingSaid s es (events.Commit k party [])
+      → ComesAfter s es (events.Commit k party [])
+  -- each participant can endorse the contract, and sign its initial transaction
+  pub endorsements : (k : ℕ) (advert : Advert) (party : List ℕ) → IsNumberOf s es k advert → Contains (participants advert) party
+      → NothingSaid s es (events.Endorse k party) → ComesAfter s es (events.Endorse k party)
+  pub inits : (k : ℕ) (advert : Advert) (party : List ℕ) → IsNumberOf s es k advert → Contains (participants advert) party
+      → NothingSaid s es (events.Init k party) → ComesAfter s es (events.Init k party)
+  -- an honest party can reveal each of its secrets that isn't posted
+  pub reveals : (k : ℕ) (advert : Advert) (party secret : List ℕ) → IsNumberOf s es k advert
+      → Contains (secrets advert.pre) (secret, party) → is_honest s party ≡ true
+      → is_ahead s (last_world s es) (events.Reveal k party secret) ≡ true → NothingSaid s es (events.Reveal k party secret)
+      → ComesAfter s es (events.Reveal k party secret)
+  -- whoever is declared and asked can authorise a branch, for which nothing is ever missing
+  pub authorisations : (party : List ℕ) (n i : ℕ) (b : term.Guarded) → is_declared s party ≡ true
+      → branch_at (last_configuration s es) n i ≡ Some b → is_among party (asks b) ≡ true
+      → ComesAfter s es (events.Authorise party n i)
+
+-- after every run that doesn't halt
+abbrev pub OthersComeTheorem : Type 0
+OthersComeTheorem = (s : Setup) (es : List Event) → IsRun s es → first_halt s es ≡ None → OthersCome s es

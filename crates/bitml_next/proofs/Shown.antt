@@ -40,6 +40,7 @@ use Rattle.theory_next.specs.Listed.{NothingIsLeftOut}
 use Rattle.theory_next.specs.MetAlone.{MetAloneTheorem}
 use Rattle.theory_next.specs.Never.{NeverIsSaid}
 use Rattle.theory_next.specs.Once.{CandidatesStandOnce}
+use Rattle.theory_next.specs.Others.{OthersComeTheorem}
 use Rattle.theory_next.specs.Ready.{ReadyComesTheorem}
 use Rattle.theory_next.specs.Together.{LinesNameAll}
 use Rattle.theory_next.specs.Waits.{WaitsAreMeant}
@@ -65,6 +66,7 @@ pub record Theorems : Type 0 where
   pub leads : LeadsAreEffects
   pub last : RefusalsLast
   pub ready : ReadyComesTheorem
+  pub others : OthersComeTheorem
   pub alone : MetAloneTheorem
   pub lines : FirstLinesAreARun
   pub run : FirstRunIsARun
@@ -153,6 +155,7 @@ module _ (form : Form) (party : Option (List ℕ)) (s : Setup) (es : List Event)
     leads = λ n i a b here taken. t.leads (last_configuration s es) n i a b here taken;
     waits = λ k advert at. t.waits s es run k advert at;
     ready = t.ready s es run;
+    others = t.others s es run told.goes_on;
     alone = t.alone s es run told.goes_on;
   }
 

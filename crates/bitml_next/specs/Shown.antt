@@ -37,6 +37,7 @@ use Rattle.theory_next.specs.Listed.{ListsAll}
 use Rattle.theory_next.specs.MetAlone.{MetAlone}
 use Rattle.theory_next.specs.Never.{SaysWhatLacks, ShowsWhatComes}
 use Rattle.theory_next.specs.Once.{EachOnce}
+use Rattle.theory_next.specs.Others.{OthersCome}
 use Rattle.theory_next.specs.Ready.{ReadyComes}
 use Rattle.theory_next.specs.Together.{LinesNameAll}
 use Rattle.theory_next.specs.Waits.{WaitsForThose}
@@ -83,6 +84,8 @@ pub record SaysOfRun (form : Form) (party : Option (List ℕ)) (s : Setup) (es :
       → WaitsForThose s (last_configuration s es) (last_world s es) k advert
   -- where nothing is missing, a contract begins and a branch is taken
   pub ready : ReadyComes s es
+  -- and what else nothing is said to be missing for can come, unless it halts the run
+  pub others : OthersCome s es
   -- where an authorisation or a height alone is missing for a branch and is met, the branch can come
   pub alone : MetAlone s es
 

@@ -14,6 +14,7 @@ ghost use Rattle.theory_next.specs.Listed.{NothingIsLeftOut};
 ghost use Rattle.theory_next.specs.MetAlone.{MetAloneTheorem};
 ghost use Rattle.theory_next.specs.Never.{NeverIsSaid};
 ghost use Rattle.theory_next.specs.Once.{CandidatesStandOnce};
+ghost use Rattle.theory_next.specs.Others.{OthersComeTheorem};
 ghost use Rattle.theory_next.specs.Ready.{ReadyComesTheorem};
 ghost use Rattle.theory_next.specs.Together.{LinesNameAll};
 ghost use Rattle.theory_next.specs.Waits.{WaitsAreMeant};
@@ -24,8 +25,8 @@ use theory_commands::files_are_judged;
 use theory_next::{
     candidates_stand_once, events_are_asked, first_events_go_through, first_lines_are_a_run,
     first_run_is_a_run, hands_count, leads_are_effects, lines_name_all, met_alone, never_is_said,
-    nothing_is_left_out, offers_are_said, ready_comes, refusals_last, requirements_are_exact,
-    waits_are_meant,
+    nothing_is_left_out, offers_are_said, others_come, ready_comes, refusals_last,
+    requirements_are_exact, waits_are_meant,
 };
 use theory_tool::valid_runs;
 
@@ -44,6 +45,7 @@ fn by_theorems()
     requires leads { LeadsAreEffects }
     requires last { RefusalsLast }
     requires ready { ReadyComesTheorem }
+    requires others { OthersComeTheorem }
     requires alone { MetAloneTheorem }
     requires lines { FirstLinesAreARun }
     requires run { FirstRunIsARun }
@@ -71,6 +73,7 @@ pub(crate) fn answers_tell_all()
     leads_are_effects();
     refusals_last();
     ready_comes();
+    others_come();
     met_alone();
     first_lines_are_a_run();
     first_run_is_a_run();

@@ -16,6 +16,7 @@ returns c = tells_all (record {
   leads = c.requires.leads;
   last = c.requires.last;
   ready = c.requires.ready;
+  others = c.requires.others;
   alone = c.requires.alone;
   lines = c.requires.lines;
   run = c.requires.run;

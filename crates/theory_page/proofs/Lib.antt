@@ -3,6 +3,8 @@ mod Held
 mod Shown
 mod Whole
 mod Formed
+mod SvgParts
+mod SvgApart
 mod Runs
 mod Told
 mod Numbered

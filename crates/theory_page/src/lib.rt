@@ -1,7 +1,7 @@
 //! What follows of pages: each theorem is the contract of a function that does nothing.
 #![tactic(auto)]
 
-ghost use Rattle.spec_page.specs.Statements.{PagesAreWellFormed, TextsAreSafe, RowsShowBranches, AllRowsHoldEvents, MoneyIsWhole, RowsAreWhole};
+ghost use Rattle.spec_page.specs.Statements.{PagesAreWellFormed, SvgsAreWellFormed, TextsStandApart, TextsAreSafe, RowsShowBranches, AllRowsHoldEvents, MoneyIsWhole, RowsAreWhole};
 ghost use Rattle.theory_page.specs.Ids.{IdsStandOnce, SvgIdsStandOnce};
 ghost use Rattle.theory_page.specs.Shows.{RowsShowLooks, FoldsHaveMoments};
 ghost use Rattle.theory_page.specs.Tells.{LinesTellTurns};
@@ -14,6 +14,16 @@ use theory_script::paths_in_order;
 /// Every page of a run or of a contract alone is well-formed HTML, whatever its title and its names are.
 pub fn pages_are_well_formed()
     ensures { PagesAreWellFormed }
+{}
+
+/// Every SVG of a run is well-formed, whatever its title and its names are.
+pub fn svgs_are_well_formed()
+    ensures { SvgsAreWellFormed }
+{}
+
+/// No two texts of an SVG overlap, and none leaves it.
+pub fn texts_stand_apart()
+    ensures { TextsStandApart }
 {}
 
 /// Whatever is written as a text or a value stays there, and is read as it is shown.

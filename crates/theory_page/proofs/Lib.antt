@@ -5,6 +5,7 @@ mod Whole
 mod Formed
 mod SvgParts
 mod SvgApart
+mod SvgTold
 mod Runs
 mod Told
 mod Numbered

@@ -131,10 +131,11 @@ below_apart k l n a b c d (x ∷ xs) ys h i p q =
 side_in : (line at : ℕ) (is : List Item) → AllIn line (line + 1) at (at + items_size is) (beside line at is)
 side_in line at [] = tt
 side_in line at (i ∷ is) =
-    let all : items_size (i ∷ is) ≡ size i + items_size is = sum_by-cons size i is in
-    (record { top = omega arith; bottom = omega arith; left = omega arith; right = omega (arith, all) },
-    widened line (line + 1) (at + size i) (at + size i + items_size is) line (line + 1) at (at + items_size (i ∷ is))
-    (omega arith) (omega arith) (omega arith) (omega (arith, all)) (beside line (at + size i) is) (side_in line (at + size i) is))
+    let all : items_size (i ∷ is) ≡ size i + items_size is = sum_by-cons size i is in (
+      record { top = omega arith; bottom = omega arith; left = omega arith; right = omega (arith, all) },
+      widened line (line + 1) (at + size i) (at + size i + items_size is) line (line + 1) at (at + items_size (i ∷ is))
+          (omega arith) (omega arith) (omega arith) (omega (arith, all)) (beside line (at + size i) is) (side_in line (at + size i) is),
+    )
 
 side_apart : (line at : ℕ) (is : List Item) → are_apart (beside line at is) ≡ true
 side_apart line at [] = refl
@@ -232,7 +233,7 @@ in_moved line at l m a b (p ∷ ps) h =
 
 -- ---- columns
 
-abbrev Fits : List ℕ → List Cell → Type 0
+abbrev pub Fits : List ℕ → List Cell → Type 0
 Fits ws [] = Unit {0}
 Fits [] (c ∷ cs) = 1 ≤ 0
 Fits (w ∷ ws) (c ∷ cs) = (items_size c.items ≤ w) × Fits ws cs
@@ -283,12 +284,12 @@ cells_apart line at (w ∷ ws) (c ∷ cs) h =
 
 -- ---- rows fit into their columns
 
-record FitsRow (w : Widths) (r : GridRow) : Type 0 where
-  path : items_size r.path ≤ w.path
-  what : reach (what_places r) ≤ w.what
-  sums : Fits w.sums r.sums
+pub record FitsRow (w : Widths) (r : GridRow) : Type 0 where
+  pub path : items_size r.path ≤ w.path
+  pub what : reach (what_places r) ≤ w.what
+  pub sums : Fits w.sums r.sums
 
-abbrev AllFit : Widths → List GridRow → Type 0
+abbrev pub AllFit : Widths → List GridRow → Type 0
 AllFit w [] = Unit {0}
 AllFit w (r ∷ rs) = FitsRow w r × AllFit w rs
 
@@ -305,7 +306,7 @@ rows_keep : (w : Widths) (xs : List GridRow) (r : GridRow) → FitsRow w r → F
 rows_keep w [] r h = h
 rows_keep w (x ∷ xs) r h = rows_keep (with_row w x) xs r (row_keeps w x r h)
 
-rows_fit : (w : Widths) (rs : List GridRow) → AllFit (with_rows w rs) rs
+pub rows_fit : (w : Widths) (rs : List GridRow) → AllFit (with_rows w rs) rs
 rows_fit w [] = tt
 rows_fit w (r ∷ rs) = (rows_keep (with_row w r) rs r (row_fits w r), rows_fit (with_row w r) rs)
 
@@ -358,7 +359,7 @@ row_apart w line r h =
 
 -- ---- all rows
 
-abbrev places_in : List PlacedRow → List Placed
+abbrev pub places_in : List PlacedRow → List Placed
 places_in rows = flat_map (λ r. r.places) rows
 
 lines_grow : (line : ℕ) (rs : List GridRow) → line ≤ lines_behind line rs
@@ -390,7 +391,7 @@ rows_apart w line (r ∷ rs) h =
 
 -- ---- the drawing
 
-places_append : (rs : List PlacedRow) (r : PlacedRow) → places_in (rs ++ r ∷ []) ≡ places_in rs ++ r.places
+pub places_append : (rs : List PlacedRow) (r : PlacedRow) → places_in (rs ++ r ∷ []) ≡ places_in rs ++ r.places
 places_append [] r = append_nil r.places
   where
     append_nil : (ps : List Placed) → ps ++ [] ≡ ps

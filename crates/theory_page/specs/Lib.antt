@@ -1,3 +1,4 @@
 pub mod Tells
 pub mod Shows
 pub mod Ids
+pub mod SvgTells

@@ -4,6 +4,7 @@
 ghost use Rattle.spec_page.specs.Statements.{PagesAreWellFormed, SvgsAreWellFormed, TextsStandApart, TextsAreSafe, RowsShowBranches, AllRowsHoldEvents, MoneyIsWhole, RowsAreWhole};
 ghost use Rattle.theory_page.specs.Ids.{IdsStandOnce, SvgIdsStandOnce};
 ghost use Rattle.theory_page.specs.Shows.{RowsShowLooks, FoldsHaveMoments};
+ghost use Rattle.theory_page.specs.SvgTells.{SvgTellsAll};
 ghost use Rattle.theory_page.specs.Tells.{LinesTellTurns};
 ghost use Rattle.theory_run.specs.Sound.{RunsAreSound};
 ghost use Rattle.theory_script.specs.Listed.{PathsInOrder};
@@ -24,6 +25,11 @@ pub fn svgs_are_well_formed()
 /// No two texts of an SVG overlap, and none leaves it.
 pub fn texts_stand_apart()
     ensures { TextsStandApart }
+{}
+
+/// Each text of an SVG's rows stands at one place of it, and nothing else does.
+pub fn svg_tells_all()
+    ensures { SvgTellsAll }
 {}
 
 /// Whatever is written as a text or a value stays there, and is read as it is shown.

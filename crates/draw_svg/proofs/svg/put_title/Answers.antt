@@ -1,4 +1,4 @@
-use Rattle.std.specs.Prelude.{◌∷◌, [], codes}
+use Rattle.std.specs.Prelude.{[], codes}
 use Rattle.spec_page.specs.Html.{element, said}
 use Rattle.draw_page.proofs.Onto.{put_text}
 use Rattle.draw_svg.proofs.svg.put_title.Goals as goal

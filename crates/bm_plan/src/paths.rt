@@ -59,8 +59,8 @@ fn reveals(branch: &Guarded) -> usize
     }
 }
 
-// How many secrets the branch at a path reveals.
-pub(crate) fn reveal_count(advert: &Advert, path: &Path) -> usize
+/// How many secrets the branch at a path reveals.
+pub fn reveal_count(advert: &Advert, path: &Path) -> usize
     ensures { result ≡ spec.reveal_count advert.now path.now }
 {
     match at(&advert.root, path) {
@@ -80,8 +80,8 @@ fn branch_count(choice: Option<&Contract>) -> usize
     }
 }
 
-// How many branches the position of a path has.
-pub(crate) fn choices_at(alloc: Global, advert: &Advert, path: &Path) -> Result<usize, OutOfMemory>
+/// How many branches the position of a path has.
+pub fn choices_at(alloc: Global, advert: &Advert, path: &Path) -> Result<usize, OutOfMemory>
     ensures { IfOk result (λ n. n ≡ spec.choices_at advert.now path.now) }
 {
     let position = position_of(alloc, path)?;

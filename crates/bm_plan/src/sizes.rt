@@ -21,8 +21,8 @@ pub(crate) struct Sizes {
     pub puts: u32,
 }
 
-// A number of 32 bits; a greater one counts as out of memory.
-pub(crate) fn narrow(number: usize) -> Result<u32, OutOfMemory>
+/// A number of 32 bits; a greater one counts as out of memory.
+pub fn narrow(number: usize) -> Result<u32, OutOfMemory>
     ensures { IfOk result (λ n. n ≡ number) }
 {
     if number > u32::MAX as usize {
@@ -31,9 +31,9 @@ pub(crate) fn narrow(number: usize) -> Result<u32, OutOfMemory>
     Ok(number as u32)
 }
 
-// The bytes of a count in the shortest of its four forms.
+/// The bytes of a count in the shortest of its four forms.
 #[tactic(auto, using(theory_weights::proofs::Weighing::count_is))]
-fn count_size(number: u64) -> u64
+pub fn count_size(number: u64) -> u64
     ensures value { result ≡ spec.count_size number }
     ensures few { result ≤ 9 }
 {
@@ -48,8 +48,8 @@ fn count_size(number: u64) -> u64
     }
 }
 
-// How many selectors a branch has.
-fn selector_count(branch: u32, branches: u32) -> u64
+/// How many selectors branch i of n has.
+pub fn selector_count(branch: u32, branches: u32) -> u64
     ensures value { result ≡ spec.selector_count branch branches }
     ensures few { result ≤ branch + 1 }
 {
@@ -60,8 +60,8 @@ fn selector_count(branch: u32, branches: u32) -> u64
     }
 }
 
-// And how many bytes they have.
-fn selector_bytes(branch: u32, branches: u32) -> u64
+/// And how many bytes they have, with their lengths.
+pub fn selector_bytes(branch: u32, branches: u32) -> u64
     ensures value { result ≡ spec.selector_bytes branch branches }
     ensures few { result ≤ branch + 2 }
 {

@@ -1,95 +1,18 @@
 -- How many bytes full witnesses have.
-use Rattle.std.proofs.Common.{◌≡◌, ℕ, zero, suc, ◌+◌, ◌*◌, List, [], ◌∷◌, ◌++◌, length, reverse, replicate, Bool, true, false, Option, Some, None, refl, ap, ◌∙◌, arith, length-append}
-use Rattle.std.specs.Prelude.{if◌then◌else◌, nat_lt}
+use Rattle.std.proofs.Common.{◌≡◌, ℕ, ◌+◌, ◌*◌, List, [], ◌∷◌, ◌++◌, length, reverse, replicate, Bool, true, false, Option, Some, None, refl, ap, ◌∙◌, arith, length-append}
+use Rattle.std.specs.Prelude.{if◌then◌else◌}
 use Rattle.std.specs.List.{flat_map}
-use Rattle.std.proofs.lemmas.List.{reverse-append, length-reverse, length-replicate}
-use Rattle.std.proofs.lemmas.List.Concat.{flat_map-cons}
+use Rattle.std.proofs.lemmas.List.{length-reverse, length-replicate}
 use Rattle.spec_bitcoin.specs.Spelling.{compact, sized, witness_bytes, is_filled}
 use Rattle.spec_compiler.specs.Keyed.OwnScripts.{pays_to_key_hash}
 use Rattle.spec_compiler.specs.Witness.{selectors, witness_of}
 use Rattle.spec_compiler.specs.declared.unsigned.Spent.{Spent}
-use Rattle.theory_weights.specs.Sizes.{count_size, item_size, selector_count, selector_bytes}
+use Rattle.theory_weights.specs.Sizes.{count_size, item_size, selector_count}
+use Rattle.theory_weights.proofs.Sized.{all_bytes, bytes_cons, bytes_append, bytes_reversed, bytes_replicated, selectors_counted, selectors_sized}
 use Rattle.spec_deal.specs.Payable.{has_taproot_form}
 use Rattle.spec_deal.specs.declared.transaction.Wallet.{Wallet}
 use Rattle.spec_deal.specs.WarnText.{full_signature, most_relayed_item, full_witness}
 use Rattle.deal_warn.specs.Sized.{key_bytes, wallet_bytes, deposit_bytes, branch_bytes, is_wallet_filled}
-
--- ---- items
-
--- the bytes of items, each with its length
-abbrev all_bytes : List (List ℕ) → ℕ
-all_bytes xs = length (flat_map sized xs)
-
-bytes_cons : (x : List ℕ) (xs : List (List ℕ)) → all_bytes (x ∷ xs) ≡ item_size (length x) + all_bytes xs
-bytes_cons x xs =
-    let a = ap length (flat_map-cons sized x xs) in
-    let b = length-append (sized x) (flat_map sized xs) in
-    let c = length-append (compact (length x)) x in
-    omega (arith, a, b, c)
-
-bytes_append : (xs ys : List (List ℕ)) → all_bytes (xs ++ ys) ≡ all_bytes xs + all_bytes ys
-bytes_append [] ys = omega arith
-bytes_append (x ∷ xs) ys =
-    let a = bytes_cons x (xs ++ ys) in
-    let b = bytes_cons x xs in
-    let c = bytes_append xs ys in
-    omega (arith, a, b, c)
-
-bytes_reversed : (xs : List (List ℕ)) → all_bytes (reverse xs) ≡ all_bytes xs
-bytes_reversed [] = refl
-bytes_reversed (x ∷ xs) =
-    let a = ap all_bytes (reverse-append (x ∷ []) xs) in
-    let b = bytes_append (reverse xs) (x ∷ []) in
-    let c = bytes_reversed xs in
-    let d = bytes_cons x [] in
-    let e = bytes_cons x xs in
-    omega (arith, a, b, c, d, e)
-
-bytes_replicated : (n : ℕ) (x : List ℕ) → all_bytes (replicate n x) ≡ n * item_size (length x)
-bytes_replicated zero x = omega arith
-bytes_replicated (suc n) x =
-    let a = bytes_cons x (replicate n x) in
-    let b = bytes_replicated n x in
-    let c = next_of n (item_size (length x)) in
-    omega (arith, a, b, c)
-  where
-    next_of : (n k : ℕ) → suc n * k ≡ k + n * k
-    next_of n k = omega arith
-
--- ---- selectors
-
-empty_size : item_size 0 ≡ 1
-unfolding compact
-empty_size = refl
-
-one_size : item_size 1 ≡ 2
-unfolding compact
-one_size = refl
-
-selectors_counted : (i n : ℕ) → length (selectors i n) ≡ selector_count i n
-selectors_counted i n = by_test (nat_lt (i + 1) n)
-  where
-    by_test : (b : Bool) → length (if b then replicate {A = List ℕ} i [] ++ (1 ∷ []) ∷ [] else replicate i []) ≡ (if b then i + 1 else i)
-    by_test true =
-        let a = length-append (replicate {A = List ℕ} i []) ((1 ∷ []) ∷ []) in
-        let b = length-replicate {A = List ℕ} i [] in
-        omega (arith, a, b)
-    by_test false = length-replicate {A = List ℕ} i []
-
-selectors_sized : (i n : ℕ) → all_bytes (selectors i n) ≡ selector_bytes i n
-selectors_sized i n = by_test (nat_lt (i + 1) n)
-  where
-    empties : all_bytes (replicate i []) ≡ i
-    empties = bytes_replicated i [] ∙ ap (λ k. i * k) empty_size ∙ omega arith
-
-    by_test : (b : Bool) → all_bytes (if b then replicate i [] ++ (1 ∷ []) ∷ [] else replicate i []) ≡ (if b then i + 2 else i)
-    by_test true =
-        let a = bytes_append (replicate i []) ((1 ∷ []) ∷ []) in
-        let b = bytes_cons (1 ∷ []) [] in
-        let c = one_size in
-        let d = empties in
-        omega (arith, a, b, c, d)
-    by_test false = empties
 
 -- ---- the witness of a branch
 

@@ -4,7 +4,7 @@ ghost use Rattle.std.specs.Prelude.{◌≡◌, if◌then◌else◌, IfOk};
 ghost use Rattle.spec_address.specs.Address.{is_witness_output};
 ghost use Rattle.spec_deal.specs.WarnText as spec;
 
-use crate::sizes::narrow;
+use bm_plan::narrow;
 use deal_address::is_witness_output;
 use spec_data::OutOfMemory;
 

@@ -1,16 +1,13 @@
 //! The sizes of transactions with full witnesses.
 
-ghost use Rattle.std.specs.Prelude.{◌≡◌, length, option_map, IfOk};
-ghost use Rattle.spec_run.specs.Ledger.{count_of};
+ghost use Rattle.std.specs.Prelude.{◌≡◌, length, IfOk};
 ghost use Rattle.spec_bitcoin.specs.Spelling.{is_filled};
-ghost use Rattle.spec_tool.specs.Weights as weights;
 ghost use Rattle.spec_deal.specs.WarnText.{full_items};
-ghost use Rattle.bm_syntax.specs.View.{contract};
 ghost use Rattle.deal_warn.specs.Sized as spec;
 
-use crate::sizes::{Taken, add, branch_bytes, key_bytes, narrow, virtual_size};
-use bm_plan::{last_branch, position_of};
-use bm_syntax::{Contract, Path, at, choice_at, reveals};
+use crate::sizes::{Taken, add, branch_bytes, key_bytes, virtual_size};
+use bm_plan::{choices_at, last_branch, narrow, reveal_count};
+use bm_syntax::Path;
 use bm_wellformed::Checked;
 use deal_payees::{has_taproot_form, pays_to_key_hash};
 use spec_data::OutOfMemory;
@@ -86,35 +83,6 @@ fn are_deposits_filled(inputs: &[Input]) -> bool
 
 // ---- branches
 
-// How many secrets the branch at a path reveals.
-fn reveal_count(checked: &Checked, path: &Path) -> usize
-    ensures { result ≡ weights.reveal_count checked.now path.now }
-{
-    match at(&checked.advert().root, path) {
-        Some(branch) => reveals(branch).len(),
-        None => 0,
-    }
-}
-
-// How many branches a choice has, none without a choice.
-#[tactic(auto, using(bm_plan::proofs::Choices::choice_count))]
-fn branch_count(choice: Option<&Contract>) -> usize
-    ensures { result ≡ count_of (option_map (λ c. contract c.now) choice.entry) }
-{
-    match choice {
-        Some(choice) => choice.branches.as_slice().len(),
-        None => 0,
-    }
-}
-
-// How many branches the position of a path has.
-fn choices_at(alloc: Global, checked: &Checked, path: &Path) -> Result<usize, OutOfMemory>
-    ensures { IfOk result (λ n. n ≡ weights.choices_at checked.now path.now) }
-{
-    let position = position_of(alloc, path)?;
-    Ok(branch_count(choice_at(&checked.advert().root, &position)))
-}
-
 // The bytes of the witness of the branch at a path, where the position's script has so many bytes.
 fn path_bytes(
     alloc: Global,
@@ -124,9 +92,10 @@ fn path_bytes(
 ) -> Result<u64, OutOfMemory>
     ensures { IfOk result (λ bytes. bytes ≡ spec.path_bytes checked.now path.now (length script.now)) }
 {
+    let advert = checked.advert();
     let people = narrow(checked.parties().len())?;
-    let secrets = narrow(reveal_count(checked, path))?;
-    let branches = narrow(choices_at(alloc, checked, path)?)?;
+    let secrets = narrow(reveal_count(advert, path))?;
+    let branches = narrow(choices_at(alloc, advert, path)?)?;
     let script = narrow(script.len())?;
     Ok(branch_bytes(Taken {
         people,

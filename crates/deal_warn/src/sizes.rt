@@ -4,6 +4,7 @@ ghost use Rattle.std.specs.Prelude.{◌≡◌, ◌≤◌, ◌+◌, IfOk};
 ghost use Rattle.theory_weights.specs.Sizes as weights;
 ghost use Rattle.deal_warn.specs.Sized as spec;
 
+use bm_plan::{count_size, selector_bytes, selector_count};
 use spec_data::OutOfMemory;
 use std::alloc::AllocError;
 
@@ -12,33 +13,6 @@ pub(crate) fn add(one: u64, other: u64) -> Result<u64, OutOfMemory>
     ensures { IfOk result (λ sum. sum ≡ one + other) }
 {
     one.checked_add(other).ok_or(AllocError)
-}
-
-/// A number of 32 bits; a greater one counts as out of memory.
-pub(crate) fn narrow(number: usize) -> Result<u32, OutOfMemory>
-    ensures { IfOk result (λ n. n ≡ number) }
-{
-    if number > u32::MAX as usize {
-        return Err(AllocError);
-    }
-    Ok(number as u32)
-}
-
-// The bytes of a count in the shortest of its four forms.
-#[tactic(auto, using(theory_weights::proofs::Weighing::count_is))]
-fn count_size(number: u64) -> u64
-    ensures value { result ≡ weights.count_size number }
-    ensures few { result ≤ 9 }
-{
-    if number < 253 {
-        1
-    } else if number < 0x1_0000 {
-        3
-    } else if number < 0x1_0000_0000 {
-        5
-    } else {
-        9
-    }
 }
 
 // The bytes of an item with its length before it.
@@ -54,30 +28,6 @@ pub(crate) fn key_bytes(script: u32) -> u64
     ensures { result ≡ spec.key_bytes script }
 {
     74 + item_size(script)
-}
-
-// How many selectors branch i of n has.
-fn selector_count(branch: u32, branches: u32) -> u64
-    ensures value { result ≡ weights.selector_count branch branches }
-    ensures few { result ≤ branch + 1 }
-{
-    if branch as u64 + 1 < branches as u64 {
-        branch as u64 + 1
-    } else {
-        branch as u64
-    }
-}
-
-// And how many bytes they have, with their lengths.
-fn selector_bytes(branch: u32, branches: u32) -> u64
-    ensures value { result ≡ weights.selector_bytes branch branches }
-    ensures few { result ≤ branch + 2 }
-{
-    if branch as u64 + 1 < branches as u64 {
-        branch as u64 + 2
-    } else {
-        branch as u64
-    }
 }
 
 /// What the witness of a branch has.

@@ -27,4 +27,5 @@ pub mod FirstAdvert
 pub mod FirstHeld
 pub mod FirstEvents
 pub mod Asked
+pub mod Advertising
 pub mod Others

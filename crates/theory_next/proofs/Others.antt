@@ -1,18 +1,19 @@
--- A commitment, an endorsement, a signature of the initial transaction, a reveal or an authorisation for which nothing is said to be missing
+-- An advertisement, a commitment, an endorsement, a signature of the initial transaction, a reveal or an authorisation for which nothing is said to be missing
 -- can come, unless it halts the run.
-use Rattle.std.proofs.Common.{◌≡◌, ℕ, List, [], ◌∷◌, ◌++◌, map, Bool, true, false, Option, Some, None, refl, sym, ap, ◌∙◌, subst, inl, inr, ◌⊎◌}
+use Rattle.std.proofs.Common.{◌≡◌, ℕ, List, [], ◌∷◌, ◌++◌, map, Bool, true, false, Option, Some, None, refl, sym, ap, ◌∙◌, subst, inl, inr, ◌⊎◌, arith}
 use Rattle.std.specs.Prelude.{not, ◌||◌, ◌&&◌, ◌==◌, is_some, if◌then◌else◌}
 use Rattle.std.specs.List.{Contains, filter, list_all, list_any}
 use Rattle.std.specs.Str.{bytes_eq}
 use Rattle.std.proofs.lemmas.Bool.{and_parts, and_from, or_right, false≢true}
 use Rattle.std.proofs.lemmas.Slice.Eq.{bytes_eq-Decides}
-use Rattle.spec_data.specs.Lists.{is_among, has_number, first_reason}
+use Rattle.spec_data.specs.Lists.{is_among, are_different, has_number, first_reason, look_up}
 use Rattle.spec_data.specs.Messages.{collision}
 use Rattle.spec_bitcoin.specs.Keys.{Pair}
 use Rattle.spec_terms.specs.Advert.{Advert}
 use Rattle.spec_terms.specs.Faults.{IsWellFormed}
 use Rattle.spec_terms.specs.Parties.{participants}
-use Rattle.spec_terms.specs.Precondition.{secrets, names_of_party}
+use Rattle.spec_terms.specs.Precondition.{deposits, secrets, names_of, names_of_party}
+use Rattle.spec_calculus.specs.declared.parts.Deposit.{Deposit}
 use Rattle.spec_calculus.specs.declared.parts.Revealed.{Revealed}
 use Rattle.spec_calculus.specs.Configuration.{Configuration}
 use Rattle.spec_calculus.specs.Beginning as calculus
@@ -23,12 +24,14 @@ use Rattle.spec_run.specs.declared.header.HeldSecret.{HeldSecret}
 use Rattle.spec_run.specs.declared.outcome.Outcome.TheVariants as outcomes
 use Rattle.spec_run.specs.declared.outcome.Reason.{Reason}
 use Rattle.spec_run.specs.declared.outcome.Reason.TheVariants as reason
-use Rattle.spec_run.specs.Setup.{Setup, contract_at, has_contract, takes_part, is_honest, held_secret, bytes_or_none}
-use Rattle.spec_run.specs.World.{World, is_advertised, has_promised, have_promised}
+use Rattle.spec_run.specs.Setup.{Setup, contract_at, has_contract, takes_part, people_at, pre_at, is_honest, held_secret}
+use Rattle.spec_run.specs.Setup.{bytes_or_none}
+use Rattle.spec_run.specs.World.{World, output_at, is_deposit, is_advertised, has_promised, have_promised}
 use Rattle.spec_run.specs.Compiled.{compiled_instance, instance_of}
 use Rattle.spec_compiler.specs.Instance.{Instance}
 use Rattle.spec_compiler.specs.Endorsements.{Need, is_met, missing_endorsement}
-use Rattle.spec_run.specs.Advertising.{are_rearranged}
+use Rattle.spec_run.specs.Advertising.{are_rearranged, arranged, not_live, unsuited, deposit_names, advertise_row}
+use Rattle.spec_run.specs.Owners.{suits}
 use Rattle.spec_run.specs.Committing.{secrets_at, names_fit, missing_secret, bad_secret, repeated_digest, commit_row, digest_row, with_promise}
 use Rattle.spec_run.specs.Committing.{committed_strings, committed_pending}
 use Rattle.spec_run.specs.Event.{pending}
@@ -43,13 +46,14 @@ use Rattle.spec_next.specs.declared.outlook.Ruling.{Ruling}
 use Rattle.spec_next.specs.declared.outlook.Ruling.TheVariants as rulings
 use Rattle.spec_next.specs.declared.requirement.Requirement.{Requirement}
 use Rattle.spec_next.specs.declared.requirement.Requirement.TheVariants as requirements
+use Rattle.spec_next.specs.Bindings.{bindings_for}
 use Rattle.spec_next.specs.Candidates.{are_signed, has_endorsed}
 use Rattle.spec_next.specs.Hands.{is_in_hand}
 use Rattle.spec_next.specs.Prospects.{is_ahead, is_never, is_string_posted, decisive, lasting, outstanding, prospect, requirements_by, ruling, ruling_by, ruling_of}
-use Rattle.spec_next.specs.Requirements.{Condition, agreed, begun, digests_told, endorsed, endorsed_for, unmet}
+use Rattle.spec_next.specs.Requirements.{Condition, agreed, begun, bound, digests_told, endorsed, endorsed_for, unmet}
 use Rattle.theory_calculus.specs.Members.{Is_in}
 use Rattle.theory_calculus.proofs.Members.{in_append, in_from_contains, all_map}
-use Rattle.theory_calculus.proofs.Names.{bytes_refl}
+use Rattle.theory_calculus.proofs.Names.{bytes_refl, different_names, deposits_different, in_looked}
 use Rattle.theory_script.proofs.Missing.{none_unmet}
 use Rattle.theory_world.proofs.Contracts.Checking.{all_checked}
 use Rattle.theory_world.proofs.Later.{compiled_from}
@@ -61,8 +65,10 @@ use Rattle.theory_run.proofs.Following.{run_posts, kept_at_end}
 use Rattle.theory_offers.proofs.WholeRun.{KeptAll, opening_all, keeps_all}
 use Rattle.theory_next.specs.Others.{OthersComeTheorem}
 use Rattle.theory_next.specs.Ready.{CanUnlessHalts}
+use Rattle.theory_next.proofs.Advertising.{BoundWell, bound_well, rearranged_same, live_at, suits_at}
 use Rattle.theory_next.proofs.Exact.{all_met, from_map}
 use Rattle.theory_next.proofs.FirstNeeds.{needed_take_part}
+use Rattle.theory_next.proofs.FirstRun.{from_among}
 use Rattle.theory_next.proofs.MetAlone as alone
 use Rattle.theory_next.proofs.Ready.{met_parts}
 use Rattle.theory_next.proofs.Waits.{comes_unless}
@@ -204,6 +210,97 @@ module _ (s : Setup) (es : List Event) (run : IsRun s es) where
 
     told : calculus.is_advertised g.advertised k ≡ true → is_advertised w k ≡ true
     told h = ap (λ xs. calculus.is_advertised xs k) (sym tracks.advertised) ∙ h
+
+    -- ---- advertisements
+
+    abbrev bindings : List (List ℕ × ℕ)
+    bindings = bindings_for g.deposits (deposits a.pre)
+
+    bound_plain : Plain s g w (bound (deposit_names s k) bindings)
+    unfolding Plain
+    bound_plain c i =
+        let m = from_map (λ x. (is_among x (names_of bindings), requirements.Deposit x)) (deposit_names s k) c i in
+        ap (λ (d : Condition). is_in_hand s w (d.1)) m.2
+
+    among_all : (xs ys : List (List ℕ)) (x : List ℕ)
+        → list_all (λ (c : Condition). c.0) (map (λ y. (is_among y ys, requirements.Deposit y)) xs) ≡ true → Is_in x xs → is_among x ys ≡ true
+    among_all [] ys x h i = absurd i
+    among_all (y ∷ xs) ys x h (inl e) =
+        subst (λ (z : List ℕ). is_among z ys ≡ true) (sym e) (and_parts (is_among y ys) _ h).0
+    among_all (y ∷ xs) ys x h (inr i) = among_all xs ys x (and_parts (is_among y ys) _ h).1 i
+
+    all_live : (bs : List (List ℕ × ℕ)) → ((b : List ℕ × ℕ) → Is_in b bs → is_deposit (output_at w (b.1)) ≡ true) → not_live w bs ≡ None
+    all_live [] f = refl
+    all_live (b ∷ bs) f =
+        ap (λ (t : Bool). if t then not_live w bs else Some (b.0)) (f b (inl refl)) ∙ all_live bs (λ c i. f c (inr i))
+
+    all_suited : (bs : List (List ℕ × ℕ))
+        → ((b : List ℕ × ℕ) → Is_in b bs → suits s (look_up (b.0) (deposits (pre_at s k))) (output_at w (b.1)) ≡ true)
+        → unsuited s w k bs ≡ None
+    all_suited [] f = refl
+    all_suited (b ∷ bs) f =
+        ap (λ (t : Bool). if t then unsuited s w k bs else Some (b.0)) (f b (inl refl)) ∙ all_suited bs (λ c i. f c (inr i))
+
+    advertises : is_ahead s w (events.Advertise k bindings) ≡ true → Refused s g w (events.Advertise k bindings)
+        → CanUnlessHalts s w (events.Advertise k bindings)
+    advertises ahead r = by_people (list_any (is_honest s) (people_at s k)) refl
+      where
+        same_names : deposit_names s k ≡ names_of (deposits a.pre)
+        same_names = ap (λ (o : Option Advert). names_of (deposits (calculus.pre_of o))) same_contract
+
+        differ : are_different (names_of (deposits a.pre)) ≡ true
+        differ = deposits_different a.pre (different_names a (all_checked s.contracts k a run.setup.contracts same_contract))
+
+        well : BoundWell g.deposits (deposits a.pre) bindings
+        well =
+            let met = all_met (bound (deposit_names s k) bindings) (none_in_hand s g w (bound (deposit_names s k) bindings) bound_plain r.nothing) in
+            bound_well g.deposits (deposits a.pre) differ
+            (λ x i. among_all (deposit_names s k) (names_of bindings) x met
+            (subst (λ (xs : List (List ℕ)). Is_in x xs) (sym same_names) (from_among x (names_of (deposits a.pre)) i)))
+
+        rearranged : are_rearranged (names_of bindings) (deposit_names s k) ≡ true
+        rearranged =
+            (λ i. are_rearranged (well.names i) (same_names i)) ∙ rearranged_same (names_of (deposits a.pre)) differ
+
+        -- each is bound to a live output that suits
+        found : (b : List ℕ × ℕ) → Is_in b bindings
+            → (is_deposit (output_at w (b.1)) ≡ true) × (suits s (look_up (b.0) (deposits (pre_at s k))) (output_at w (b.1)) ≡ true)
+        found b i =
+            let e = well.each b i in
+            let l = live_at s w.outputs 0 e.d (subst (λ (ds : List Deposit). Is_in e.d ds) tracks.money.deposits e.there) in
+            let place : l.j ≡ b.1 = let n = l.number in let m = e.number in omega (arith, n, m) in
+            let here : output_at w (b.1) ≡ Some l.o = ap (λ (n : ℕ). output_at w n) (sym place) ∙ l.at in
+            let looked : look_up (b.0) (deposits (pre_at s k)) ≡ Some e.holding =
+            ap (λ (o : Option Advert). look_up (b.0) (deposits (calculus.pre_of o))) same_contract
+            ∙ in_looked (deposits a.pre) (b.0, e.holding) differ e.named in (
+              ap is_deposit here ∙ l.live,
+              (λ i. suits s (looked i) (here i)) ∙ suits_at s e.holding e.d l.o e.fit l.live l.owner l.value,
+            )
+
+        last : Pending
+        last = done (record w {
+          advertised = w.advertised ++ record { contract = k; bindings = arranged 0 (deposit_names s k) bindings } ∷ [];
+        }) []
+
+        row_is : (b : Bool) → list_any (is_honest s) (people_at s k) ≡ b
+            → first_reason (advertise_row s w k bindings) ≡ first_reason ((not b, reason.NoHonest) ∷ [])
+        row_is b e i = first_reason (
+            (not (there i), reason.NoContract)
+            ∷ (not_yes (is_advertised w k) ahead i, reason.AdvertFull)
+            ∷ (not (rearranged i), reason.WrongNames)
+            ∷ (is_some (well.once i), reason.DepositRepeated (bytes_or_none (well.once i)))
+            ∷ (is_some (all_live bindings (λ b' j. (found b' j).0) i), reason.NotLive (bytes_or_none (all_live bindings (λ b' j. (found b' j).0) i)))
+            ∷ (is_some (all_suited bindings (λ b' j. (found b' j).1) i), reason.WrongDeposit (bytes_or_none (all_suited bindings (λ b' j. (found b' j).1) i)))
+            ∷ (not (e i), reason.NoHonest)
+            ∷ [])
+
+        by_people : (b : Bool) → list_any (is_honest s) (people_at s k) ≡ b → CanUnlessHalts s w (events.Advertise k bindings)
+        by_people true e = comes_unless s w (events.Advertise k bindings) (ap (λ x. ruling_by (unless x w [] last).outcome) (row_is true e))
+        by_people false e =
+            let o : (pending s w (events.Advertise k bindings)).outcome ≡ outcomes.Refused reason.NoHonest =
+            ap (λ x. (unless x w [] last).outcome) (row_is false e) in
+            let stays : lasting reason.NoHonest ≡ [] = ap lasting (same_reason s g w (events.Advertise k bindings) r.reason reason.NoHonest o r.is) ∙ r.passes in
+            absurd cc
 
     -- ---- endorsements
 
@@ -500,6 +597,10 @@ module _ (s : Setup) (es : List Event) (run : IsRun s es) where
 
 pub others_come : OthersComeTheorem
 others_come s es run on = record {
+  advertisements = λ k advert at ahead said.
+      unless_refused s (last_configuration s es) (last_world s es)
+      (events.Advertise k (bindings_for (last_configuration s es).deposits (deposits advert.pre))) said
+      (advertises s es run k advert at ahead);
   commitments = λ k advert party at part ahead said.
       unless_refused s (last_configuration s es) (last_world s es) (events.Commit k party []) said
       (commits s es run k advert at party part ahead);

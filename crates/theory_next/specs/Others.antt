@@ -1,4 +1,4 @@
--- What is claimed of commitments, endorsements, signatures of initial transactions, reveals and authorisations: those for which nothing is said
+-- What is claimed of advertisements, commitments, endorsements, signatures of initial transactions, reveals and authorisations: those for which nothing is said
 -- to be missing can come, unless they halt the run.
 use Rattle.std.specs.Prelude.{◌≡◌, ℕ, List, [], true, None, Some}
 use Rattle.std.specs.List.{Contains}
@@ -15,6 +15,7 @@ use Rattle.spec_run.specs.declared.event.Event.TheVariants as events
 use Rattle.spec_run.specs.Setup.{Setup, is_declared, is_honest}
 use Rattle.spec_run.specs.Translation.{last_configuration, last_world, first_halt}
 use Rattle.spec_run.specs.Statements.{IsRun}
+use Rattle.spec_next.specs.Candidates.{advertising}
 use Rattle.spec_next.specs.Prospects.{is_ahead, prospect}
 use Rattle.theory_next.specs.Ready.{CanUnlessHalts}
 
@@ -31,6 +32,11 @@ abbrev pub IsNumberOf : Setup → List Event → ℕ → Advert → Type 0
 IsNumberOf s es k advert = contract_at (last_configuration s es).contracts k ≡ Some advert
 
 pub record OthersCome (s : Setup) (es : List Event) : Type 0 where
+  -- a contract that isn't advertised can be, with the deposits that fit
+  pub advertisements : (k : ℕ) (advert : Advert) → IsNumberOf s es k advert
+      → is_ahead s (last_world s es) (advertising (last_configuration s es) k advert) ≡ true
+      → NothingSaid s es (advertising (last_configuration s es) k advert)
+      → ComesAfter s es (advertising (last_configuration s es) k advert)
   -- a participant that hasn't committed can, without digests
   pub commitments : (k : ℕ) (advert : Advert) (party : List ℕ) → IsNumberOf s es k advert → Contains (participants advert) party
       → is_ahead s (last_world s es) (events.Commit k party []) ≡ true → NothingSaid s es (events.Commit k party [])

@@ -80,7 +80,7 @@ fn with_row(alloc: Global, widths: &Widths, row: &GridRow) -> Result<Widths, Out
     ensures { IfOk result (λ w. widths_of w ≡ spec.with_row (widths_of widths.now) row.now) }
 {
     let path = items_size(row.path.as_slice())?;
-    let what = reach(row.indent as usize, 28, row.what.as_slice())?;
+    let what = reach(row.indent as usize, 34, row.what.as_slice())?;
     let sums = wider(alloc, widths.sums.as_slice(), row.sums.as_slice())?;
     Ok(Widths {
         path: widths.path.max(path),

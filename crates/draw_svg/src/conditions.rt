@@ -3,13 +3,13 @@
 ghost use Rattle.std.specs.Prelude.{◌≡◌, ◌++◌, ◌∷◌, [], codes, None, IfOk, OnOk};
 ghost use Rattle.spec_page.specs.ContractPart.{condition_text as text_of_condition};
 ghost use Rattle.spec_page.specs.Figures.{sum_text};
-ghost use Rattle.spec_page.specs.SvgItems.{item as plain};
+ghost use Rattle.spec_page.specs.SvgItems.{item as plain, said_items};
 ghost use Rattle.spec_page.specs.SvgContract as spec;
 ghost use Rattle.spec_page.specs.declared.svg_row.Kind.TheVariants as kinds;
 ghost use Rattle.draw_svg.specs.Endings.{ending_of};
 
 use crate::ending::Ending;
-use crate::items::{item, plain_item};
+use crate::items::{item, plain_item, put_said};
 use draw_page::{Piece, condition_text, further, look_in, made};
 use spec_data::{OutOfMemory, Seq};
 use spec_page::{Condition, Item, Kind, Status};
@@ -34,6 +34,62 @@ fn chip(
     Ok(item(Kind::Chip, status_of(ending, part), text))
 }
 
+fn predicate_chip(alloc: Global, ending: &Ending, part: usize) -> Result<Item, OutOfMemory>
+    ensures { IfOk result (λ i. i ≡ plain kinds.Chip (spec.status_of (ending_of ending.now) part) (codes "if")) }
+{
+    let text = made(alloc, &[Piece::Mark(b"if")])?;
+    Ok(item(Kind::Chip, status_of(ending, part), text))
+}
+
+#[tactic(auto, using(std::proofs::Common::append_assoc))]
+fn put_predicate(
+    alloc: Global,
+    items: &mut Seq<Item>,
+    ending: &Ending,
+    part: usize,
+    text: &[u8],
+) -> Result<(), OutOfMemory>
+    ensures { OnOk result (items.new ≡ items.old
+        ++ plain kinds.Chip (spec.status_of (ending_of ending.now) part) (codes "if") ∷ said_items kinds.Word text.now) }
+{
+    let chip = predicate_chip(alloc, ending, part)?;
+    items.push(chip)?;
+    put_said(alloc, items, Kind::Word, text)
+}
+
+// A condition in a frame.
+fn put_chip(
+    alloc: Global,
+    items: &mut Seq<Item>,
+    ending: &Ending,
+    part: usize,
+    condition: &Condition,
+) -> Result<(), OutOfMemory>
+    ensures { OnOk result (items.new ≡ items.old
+        ++ plain kinds.Chip (spec.status_of (ending_of ending.now) part) (text_of_condition condition.now) ∷ []) }
+{
+    let chip = chip(alloc, ending, part, condition)?;
+    items.push(chip)
+}
+
+fn put_condition(
+    alloc: Global,
+    items: &mut Seq<Item>,
+    ending: &Ending,
+    part: usize,
+    condition: &Condition,
+) -> Result<(), OutOfMemory>
+    ensures { OnOk result (items.new ≡ items.old ++ spec.chips_of (ending_of ending.now) part condition.now) }
+{
+    match condition {
+        Condition::Agrees(_) => put_chip(alloc, items, ending, part, condition),
+        Condition::Block(_) => put_chip(alloc, items, ending, part, condition),
+        Condition::Puts { .. } => put_chip(alloc, items, ending, part, condition),
+        Condition::Shows { .. } => put_chip(alloc, items, ending, part, condition),
+        Condition::Holds(text) => put_predicate(alloc, items, ending, part, text.as_slice()),
+    }
+}
+
 #[tactic(auto, using(std::proofs::Common::append_assoc))]
 fn put_chips(
     alloc: Global,
@@ -46,8 +102,7 @@ fn put_chips(
 {
     for (index, condition) in conditions.iter().enumerate() {
         let number = further(part, index)?;
-        let chip = chip(alloc, ending, number, condition)?;
-        items.push(chip)?;
+        put_condition(alloc, items, ending, number, condition)?;
     }
     Ok(())
 }

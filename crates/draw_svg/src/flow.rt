@@ -76,6 +76,6 @@ pub(crate) fn last_line(begin: usize, limit: usize, items: &[Item]) -> Result<us
 pub(crate) fn row_lines(row: &GridRow) -> Result<usize, OutOfMemory>
     ensures { IfOk result (λ n. n ≡ spec.row_lines row.now) }
 {
-    let last = last_line(row.indent as usize, 28, row.what.as_slice())?;
+    let last = last_line(row.indent as usize, 34, row.what.as_slice())?;
     further(last, 1)
 }

@@ -143,7 +143,7 @@ fn put_places(
         line,
         widths.path,
         row.indent as usize,
-        28,
+        34,
         row.what.as_slice(),
     )?;
     let at = further(widths.path, widths.what)?;

@@ -6,6 +6,7 @@ use Rattle.spec_tool.specs.declared.which.Which.TheVariants.{Init, At}
 use Rattle.spec_page.specs.declared.picture.Sheet.{Sheet}
 use Rattle.spec_page.specs.declared.status.Status.{Status}
 use Rattle.spec_page.specs.declared.way_row.Condition.{Condition}
+use Rattle.spec_page.specs.declared.way_row.Condition.TheVariants.{Agrees, Block, Puts, Shows, Holds}
 use Rattle.spec_page.specs.declared.way_row.Payment.{Payment}
 use Rattle.spec_page.specs.declared.way_row.Stake.{Stake}
 use Rattle.spec_page.specs.declared.way_row.WayRow.{WayRow}
@@ -34,10 +35,18 @@ status_of s n = Some (look_in n s.looks)
 
 -- ---- conditions
 
+-- a condition that is part n; a predicate may be long, so its words stand behind it
+abbrev pub chips_of : Ending → ℕ → Condition → List Item
+chips_of s n (Agrees party) = item kinds.Chip (status_of s n) (condition_text (Agrees party)) ∷ []
+chips_of s n (Block height) = item kinds.Chip (status_of s n) (condition_text (Block height)) ∷ []
+chips_of s n (Puts party value deposit) = item kinds.Chip (status_of s n) (condition_text (Puts party value deposit)) ∷ []
+chips_of s n (Shows party secret) = item kinds.Chip (status_of s n) (condition_text (Shows party secret)) ∷ []
+chips_of s n (Holds text) = item kinds.Chip (status_of s n) (codes "if") ∷ said_items kinds.Word text
+
 -- numbered from n on
 abbrev pub chip_items : Ending → ℕ → List Condition → List Item
 chip_items s n [] = []
-chip_items s n (c ∷ cs) = item kinds.Chip (status_of s n) (condition_text c) ∷ chip_items s (n + 1) cs
+chip_items s n (c ∷ cs) = chips_of s n c ++ chip_items s (n + 1) cs
 
 -- where there is no condition, anyone may take the branch
 abbrev pub condition_items : Ending → ℕ → List Condition → List Item

@@ -64,7 +64,7 @@ last_line n (p ∷ ps) = last_line p.line ps
 
 -- what stands beside a path takes so many characters, and more lines where it needs more
 abbrev pub most_beside : ℕ
-most_beside = 28
+most_beside = 34
 
 abbrev pub what_places : GridRow → List Placed
 what_places r = flowing r.indent most_beside (spot 0 r.indent) r.what

@@ -23,7 +23,7 @@ use Rattle.spec_deal.specs.Slots.{is_endorsement}
 use Rattle.spec_deal.specs.Finished.{label_party, which_path}
 use Rattle.spec_deal.specs.DealText.{line_of, verb_text, item_word}
 use Rattle.spec_deal.specs.Wallets.{signer_text, first_item, second_item}
-use Rattle.deal_missing.specs.declared.requirements.Requirement.{Requirement}
+use Rattle.deal_missing.specs.declared.requirements.Wanted.{Wanted}
 
 -- a signature that is needed: of which input of which transaction, by whom, and of which digest; or a wallet's witness of it
 pub record Required : Type 0 where
@@ -53,8 +53,8 @@ abbrev pub required : List Transaction → List Required
 required ts = flat_map transaction_required ts
 
 -- as the code has it
-abbrev pub requirement_in : Requirement → Required
-requirement_in w = signer_required w.transaction.now w.number w.input.now w.signer.now
+abbrev pub wanted_in : Wanted → Required
+wanted_in w = signer_required w.transaction.now w.number w.input.now w.signer.now
 
 -- ---- whether it is there
 

@@ -10,21 +10,21 @@ ghost use Rattle.spec_deal.specs.Transactions.{transaction as transaction_of};
 ghost use Rattle.deal_missing.specs.Required as spec;
 
 use crate::looking::{is_endorsement, party_of};
-use crate::requirements::{Requirement, requirements_of};
+use crate::requirements::{Wanted, requirements_of};
 use spec_data::OutOfMemory;
 use spec_deal::Transaction;
 use std::alloc::Global;
 
 // Whether it is an endorsement by this party.
-fn is_by(requirement: &Requirement, party: &[u8]) -> bool
-    ensures { result ≡ spec.is_endorsement_by party.now (spec.requirement_in requirement.now) }
+fn is_by(requirement: &Wanted, party: &[u8]) -> bool
+    ensures { result ≡ spec.is_endorsement_by party.now (spec.wanted_in requirement.now) }
 {
     is_endorsement(requirement.signer.verb) && party_of(&requirement.signer.label).bytes() == party
 }
 
 // Whether one of these is.
-fn any_by(requirements: &[Requirement], party: &[u8]) -> bool
-    ensures { result ≡ list_any (spec.is_endorsement_by party.now) (map spec.requirement_in requirements.now) }
+fn any_by(requirements: &[Wanted], party: &[u8]) -> bool
+    ensures { result ≡ list_any (spec.is_endorsement_by party.now) (map spec.wanted_in requirements.now) }
 {
     for requirement in requirements {
         if is_by(requirement, party) {

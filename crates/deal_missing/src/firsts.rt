@@ -13,7 +13,7 @@ ghost use Rattle.spec_deal.specs.Transactions.{transaction as transaction_of, tr
 ghost use Rattle.deal_missing.specs.Required as spec;
 
 use crate::looking::{first_lacking, first_without, party_of};
-use crate::requirements::{Requirement, all_requirements, requirements_of};
+use crate::requirements::{Wanted, all_requirements, requirements_of};
 use deal_signatures::Given;
 use spec_data::{Name, OutOfMemory};
 use spec_deal::{FinishRefusal, Transaction};
@@ -34,9 +34,9 @@ fn path_of(alloc: Global, which: &Which) -> Result<Path, OutOfMemory>
 // The path of what is needed, and who signs it.
 fn path_and_party(
     alloc: Global,
-    requirement: Option<&Requirement>,
+    requirement: Option<&Wanted>,
 ) -> Result<Option<(Path, Name)>, OutOfMemory>
-    ensures { IfOk result (λ o. o ≡ option_map spec.path_and_party (option_map (λ w. spec.requirement_in w.now) requirement.entry)) }
+    ensures { IfOk result (λ o. o ≡ option_map spec.path_and_party (option_map (λ w. spec.wanted_in w.now) requirement.entry)) }
 {
     match requirement {
         Some(requirement) => {
@@ -48,8 +48,8 @@ fn path_and_party(
 }
 
 // Without what is needed nobody takes its transaction.
-fn refusal_of(alloc: Global, requirement: &Requirement) -> Result<FinishRefusal, OutOfMemory>
-    ensures { IfOk result (λ refusal. refusal ≡ spec.refusal_of (spec.requirement_in requirement.now)) }
+fn refusal_of(alloc: Global, requirement: &Wanted) -> Result<FinishRefusal, OutOfMemory>
+    ensures { IfOk result (λ refusal. refusal ≡ spec.refusal_of (spec.wanted_in requirement.now)) }
 {
     let number = requirement.number;
     match &requirement.input.wallet {
@@ -61,9 +61,9 @@ fn refusal_of(alloc: Global, requirement: &Requirement) -> Result<FinishRefusal,
 // The same, if something is needed.
 fn refused_by(
     alloc: Global,
-    requirement: Option<&Requirement>,
+    requirement: Option<&Wanted>,
 ) -> Result<Option<FinishRefusal>, OutOfMemory>
-    ensures { IfOk result (λ o. o ≡ option_map spec.refusal_of (option_map (λ w. spec.requirement_in w.now) requirement.entry)) }
+    ensures { IfOk result (λ o. o ≡ option_map spec.refusal_of (option_map (λ w. spec.wanted_in w.now) requirement.entry)) }
 {
     match requirement {
         Some(requirement) => Ok(Some(refusal_of(alloc, requirement)?)),

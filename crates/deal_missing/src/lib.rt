@@ -13,5 +13,7 @@ mod witness_lines;
 
 pub use endorsing::is_endorsed_by;
 pub use firsts::{first_unendorsed, first_unsigned};
+pub use looking::{is_endorsement, is_there, party_of};
 pub use ready::{is_ready, ready_text};
+pub use requirements::{Wanted, all_requirements};
 pub use texts::{held_text, missing_text};

@@ -8,7 +8,7 @@ ghost use Rattle.spec_deal.specs.Wallets.{signer_text};
 ghost use Rattle.deal_missing.specs.Required as spec;
 
 use crate::looking::party_of;
-use crate::requirements::Requirement;
+use crate::requirements::Wanted;
 use bm_keys::put_label;
 use bm_text::{put, put_decimal, put_hex};
 use spec_bitcoin::Label;
@@ -51,9 +51,9 @@ fn put_signer(
 pub(crate) fn put_requirement(
     alloc: Global,
     out: &mut Vec<u8>,
-    requirement: &Requirement,
+    requirement: &Wanted,
 ) -> Result<(), OutOfMemory>
-    ensures { OnOk result (out.new.items ≡ out.old.items ++ spec.required_text (spec.requirement_in requirement.now)) }
+    ensures { OnOk result (out.new.items ≡ out.old.items ++ spec.required_text (spec.wanted_in requirement.now)) }
 {
     put_which(alloc, out, &requirement.transaction.which)?;
     put(out, b" ")?;
@@ -74,9 +74,9 @@ pub(crate) fn put_requirement(
 pub(crate) fn put_missing(
     alloc: Global,
     out: &mut Vec<u8>,
-    requirement: &Requirement,
+    requirement: &Wanted,
 ) -> Result<(), OutOfMemory>
-    ensures { OnOk result (out.new.items ≡ out.old.items ++ spec.missing_line (spec.requirement_in requirement.now)) }
+    ensures { OnOk result (out.new.items ≡ out.old.items ++ spec.missing_line (spec.wanted_in requirement.now)) }
 {
     put(out, b"missing ")?;
     put_requirement(alloc, out, requirement)?;
@@ -88,9 +88,9 @@ pub(crate) fn put_missing(
 pub(crate) fn put_unverified(
     alloc: Global,
     out: &mut Vec<u8>,
-    requirement: &Requirement,
+    requirement: &Wanted,
 ) -> Result<(), OutOfMemory>
-    ensures { OnOk result (out.new.items ≡ out.old.items ++ spec.unverified_line (spec.requirement_in requirement.now)) }
+    ensures { OnOk result (out.new.items ≡ out.old.items ++ spec.unverified_line (spec.wanted_in requirement.now)) }
 {
     put(out, b"unverified ")?;
     put_requirement(alloc, out, requirement)?;
@@ -102,11 +102,11 @@ pub(crate) fn put_unverified(
 fn put_proof(
     alloc: Global,
     out: &mut Vec<u8>,
-    requirement: &Requirement,
+    requirement: &Wanted,
     key: &[u8],
     signature: &[u8],
 ) -> Result<(), OutOfMemory>
-    ensures { OnOk result (out.new.items ≡ out.old.items ++ spec.proof_text (spec.requirement_in requirement.now) key.now signature.now) }
+    ensures { OnOk result (out.new.items ≡ out.old.items ++ spec.proof_text (spec.wanted_in requirement.now) key.now signature.now) }
 {
     put_hex(alloc, out, key)?;
     put(out, b" ")?;
@@ -120,11 +120,11 @@ fn put_proof(
 pub(crate) fn put_held(
     alloc: Global,
     out: &mut Vec<u8>,
-    requirement: &Requirement,
+    requirement: &Wanted,
     key: &[u8],
     signature: &[u8],
 ) -> Result<(), OutOfMemory>
-    ensures { OnOk result (out.new.items ≡ out.old.items ++ spec.held_line (spec.requirement_in requirement.now) key.now signature.now) }
+    ensures { OnOk result (out.new.items ≡ out.old.items ++ spec.held_line (spec.wanted_in requirement.now) key.now signature.now) }
 {
     put(out, b"held ")?;
     put_requirement(alloc, out, requirement)?;
@@ -150,10 +150,10 @@ pub(crate) fn put_gate(
     alloc: Global,
     out: &mut Vec<u8>,
     unverified: bool,
-    requirement: Option<&Requirement>,
+    requirement: Option<&Wanted>,
 ) -> Result<(), OutOfMemory>
     ensures { OnOk result (out.new.items ≡ out.old.items
-        ++ spec.gate_line unverified (option_map (λ w. spec.requirement_in w.now) requirement.entry)) }
+        ++ spec.gate_line unverified (option_map (λ w. spec.wanted_in w.now) requirement.entry)) }
 {
     match requirement {
         Some(requirement) => {

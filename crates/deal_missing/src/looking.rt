@@ -6,7 +6,7 @@ ghost use Rattle.spec_deal.specs.Finished.{label_party};
 ghost use Rattle.spec_deal.specs.Slots as slots;
 ghost use Rattle.deal_missing.specs.Required as spec;
 
-use crate::requirements::Requirement;
+use crate::requirements::Wanted;
 use deal_signatures::Given;
 use spec_bitcoin::Label;
 use spec_data::{Bytes, Name, OutOfMemory, Seq};
@@ -19,9 +19,9 @@ use std::alloc::Global;
 pub(crate) fn signature_of<'a>(
     alloc: Global,
     given: &'a Given,
-    requirement: &Requirement,
+    requirement: &Wanted,
 ) -> Result<Option<&'a Bytes>, OutOfMemory>
-    ensures { IfOk result (λ o. option_map (λ s. s.now) o ≡ spec.signature_of given.now (spec.requirement_in requirement.now)) }
+    ensures { IfOk result (λ o. option_map (λ s. s.now) o ≡ spec.signature_of given.now (spec.wanted_in requirement.now)) }
 {
     let tx = requirement.transaction.bytes.as_slice();
     given.signature(alloc, tx, requirement.number, &requirement.signer.key)
@@ -31,27 +31,23 @@ pub(crate) fn signature_of<'a>(
 pub(crate) fn witness_of<'a>(
     alloc: Global,
     given: &'a Given,
-    requirement: &Requirement,
+    requirement: &Wanted,
 ) -> Result<Option<&'a Seq<Bytes>>, OutOfMemory>
-    ensures { IfOk result (λ o. option_map (λ s. s.now) o ≡ spec.witness_of given.now (spec.requirement_in requirement.now)) }
+    ensures { IfOk result (λ o. option_map (λ s. s.now) o ≡ spec.witness_of given.now (spec.wanted_in requirement.now)) }
 {
     let tx = requirement.transaction.bytes.as_slice();
     given.witness(alloc, tx, requirement.number, &requirement.signer.key)
 }
 
 /// Whether the signature or witness that is needed is there.
-pub(crate) fn is_there(
-    alloc: Global,
-    given: &Given,
-    requirement: &Requirement,
-) -> Result<bool, OutOfMemory>
-    ensures { IfOk result (λ b. b ≡ spec.is_there given.now (spec.requirement_in requirement.now)) }
+pub fn is_there(alloc: Global, given: &Given, requirement: &Wanted) -> Result<bool, OutOfMemory>
+    ensures { IfOk result (λ b. b ≡ spec.is_there given.now (spec.wanted_in requirement.now)) }
 {
     Ok(signature_of(alloc, given, requirement)?.is_some())
 }
 
 /// Whether it has to be there before anyone signs the initial transaction.
-pub(crate) fn is_endorsement(verb: Verb) -> bool
+pub fn is_endorsement(verb: Verb) -> bool
     ensures { result ≡ slots.is_endorsement verb }
 {
     match verb {
@@ -62,7 +58,7 @@ pub(crate) fn is_endorsement(verb: Verb) -> bool
 }
 
 /// Whose key a label names.
-pub(crate) fn party_of(label: &Label) -> &Name
+pub fn party_of(label: &Label) -> &Name
     ensures { result.now ≡ label_party label.now }
 {
     match label {
@@ -72,12 +68,8 @@ pub(crate) fn party_of(label: &Label) -> &Name
 }
 
 // Whether it is an endorsement that isn't there.
-fn is_unendorsed(
-    alloc: Global,
-    given: &Given,
-    requirement: &Requirement,
-) -> Result<bool, OutOfMemory>
-    ensures { IfOk result (λ b. b ≡ spec.is_unendorsed given.now (spec.requirement_in requirement.now)) }
+fn is_unendorsed(alloc: Global, given: &Given, requirement: &Wanted) -> Result<bool, OutOfMemory>
+    ensures { IfOk result (λ b. b ≡ spec.is_unendorsed given.now (spec.wanted_in requirement.now)) }
 {
     if !is_endorsement(requirement.signer.verb) {
         return Ok(false);
@@ -86,8 +78,8 @@ fn is_unendorsed(
 }
 
 /// Whether it is an endorsement by a wallet.
-pub(crate) fn is_wallets(requirement: &Requirement) -> bool
-    ensures { result ≡ spec.is_wallets (spec.requirement_in requirement.now) }
+pub(crate) fn is_wallets(requirement: &Wanted) -> bool
+    ensures { result ≡ spec.is_wallets (spec.wanted_in requirement.now) }
 {
     is_endorsement(requirement.signer.verb) && requirement.input.wallet.is_some()
 }
@@ -96,9 +88,9 @@ pub(crate) fn is_wallets(requirement: &Requirement) -> bool
 pub(crate) fn is_unverified(
     alloc: Global,
     given: &Given,
-    requirement: &Requirement,
+    requirement: &Wanted,
 ) -> Result<bool, OutOfMemory>
-    ensures { IfOk result (λ b. b ≡ spec.is_unverified given.now (spec.requirement_in requirement.now)) }
+    ensures { IfOk result (λ b. b ≡ spec.is_unverified given.now (spec.wanted_in requirement.now)) }
 {
     if !is_wallets(requirement) {
         return Ok(false);
@@ -112,9 +104,9 @@ pub(crate) fn is_unverified(
 pub(crate) fn any_unverified(
     alloc: Global,
     given: &Given,
-    requirements: &[Requirement],
+    requirements: &[Wanted],
 ) -> Result<bool, OutOfMemory>
-    ensures { IfOk result (λ b. b ≡ list_any (spec.is_unverified given.now) (map spec.requirement_in requirements.now)) }
+    ensures { IfOk result (λ b. b ≡ list_any (spec.is_unverified given.now) (map spec.wanted_in requirements.now)) }
 {
     for requirement in requirements {
         if is_unverified(alloc, given, requirement)? {
@@ -128,10 +120,10 @@ pub(crate) fn any_unverified(
 pub(crate) fn first_without<'a, 'b>(
     alloc: Global,
     given: &Given,
-    requirements: &'b [Requirement<'a>],
-) -> Result<Option<&'b Requirement<'a>>, OutOfMemory>
-    ensures { IfOk result (λ o. option_map (λ w. spec.requirement_in w.now) o
-        ≡ find (spec.is_unendorsed given.now) (map spec.requirement_in requirements.now)) }
+    requirements: &'b [Wanted<'a>],
+) -> Result<Option<&'b Wanted<'a>>, OutOfMemory>
+    ensures { IfOk result (λ o. option_map (λ w. spec.wanted_in w.now) o
+        ≡ find (spec.is_unendorsed given.now) (map spec.wanted_in requirements.now)) }
 {
     for requirement in requirements {
         if is_unendorsed(alloc, given, requirement)? {
@@ -145,10 +137,10 @@ pub(crate) fn first_without<'a, 'b>(
 pub(crate) fn first_lacking<'a, 'b>(
     alloc: Global,
     given: &Given,
-    requirements: &'b [Requirement<'a>],
-) -> Result<Option<&'b Requirement<'a>>, OutOfMemory>
-    ensures { IfOk result (λ o. option_map (λ w. spec.requirement_in w.now) o
-        ≡ find (λ w. not (spec.is_there given.now w)) (map spec.requirement_in requirements.now)) }
+    requirements: &'b [Wanted<'a>],
+) -> Result<Option<&'b Wanted<'a>>, OutOfMemory>
+    ensures { IfOk result (λ o. option_map (λ w. spec.wanted_in w.now) o
+        ≡ find (λ w. not (spec.is_there given.now w)) (map spec.wanted_in requirements.now)) }
 {
     for requirement in requirements {
         if !is_there(alloc, given, requirement)? {

@@ -11,7 +11,7 @@ ghost use Rattle.deal_missing.specs.Required as spec;
 
 use crate::lines::put_unverified;
 use crate::looking::{any_unverified, first_without, is_unverified};
-use crate::requirements::{Requirement, all_requirements};
+use crate::requirements::{Wanted, all_requirements};
 use crate::texts::put_gate_of;
 use deal_signatures::Given;
 use spec_data::OutOfMemory;
@@ -23,9 +23,9 @@ fn put_if_unverified(
     alloc: Global,
     out: &mut Vec<u8>,
     given: &Given,
-    requirement: &Requirement,
+    requirement: &Wanted,
 ) -> Result<(), OutOfMemory>
-    ensures { OnOk result (out.new.items ≡ out.old.items ++ spec.told_if_unverified given.now (spec.requirement_in requirement.now)) }
+    ensures { OnOk result (out.new.items ≡ out.old.items ++ spec.told_if_unverified given.now (spec.wanted_in requirement.now)) }
 {
     if !is_unverified(alloc, given, requirement)? {
         return Ok(());
@@ -38,9 +38,9 @@ fn put_all_unverified(
     alloc: Global,
     out: &mut Vec<u8>,
     given: &Given,
-    requirements: &[Requirement],
+    requirements: &[Wanted],
 ) -> Result<(), OutOfMemory>
-    ensures { OnOk result (out.new.items ≡ out.old.items ++ flat_map (spec.told_if_unverified given.now) (map spec.requirement_in requirements.now)) }
+    ensures { OnOk result (out.new.items ≡ out.old.items ++ flat_map (spec.told_if_unverified given.now) (map spec.wanted_in requirements.now)) }
 {
     for requirement in requirements {
         put_if_unverified(alloc, out, given, requirement)?;

@@ -11,7 +11,7 @@ use crate::lines::{put_gate, put_held, put_missing, put_unverified};
 use crate::looking::{
     any_unverified, first_without, is_there, is_wallets, signature_of, witness_of,
 };
-use crate::requirements::{Requirement, all_requirements};
+use crate::requirements::{Wanted, all_requirements};
 use crate::witness_lines::put_witness;
 use deal_signatures::Given;
 use spec_data::OutOfMemory;
@@ -21,12 +21,8 @@ use std::alloc::Global;
 // ---- lines
 
 // The line of one that is there, if it is an endorsement by a wallet.
-fn put_if_wallets(
-    alloc: Global,
-    out: &mut Vec<u8>,
-    requirement: &Requirement,
-) -> Result<(), OutOfMemory>
-    ensures { let w = spec.requirement_in requirement.now in
+fn put_if_wallets(alloc: Global, out: &mut Vec<u8>, requirement: &Wanted) -> Result<(), OutOfMemory>
+    ensures { let w = spec.wanted_in requirement.now in
         OnOk result (out.new.items ≡ out.old.items ++ spec.line_if_unverified w (spec.is_wallets w)) }
 {
     if !is_wallets(requirement) {
@@ -40,9 +36,9 @@ fn put_if_unsettled(
     alloc: Global,
     out: &mut Vec<u8>,
     given: &Given,
-    requirement: &Requirement,
+    requirement: &Wanted,
 ) -> Result<(), OutOfMemory>
-    ensures { OnOk result (out.new.items ≡ out.old.items ++ spec.told_if_unsettled given.now (spec.requirement_in requirement.now)) }
+    ensures { OnOk result (out.new.items ≡ out.old.items ++ spec.told_if_unsettled given.now (spec.wanted_in requirement.now)) }
 {
     if is_there(alloc, given, requirement)? {
         return put_if_wallets(alloc, out, requirement);
@@ -55,9 +51,9 @@ fn put_if_signed(
     alloc: Global,
     out: &mut Vec<u8>,
     given: &Given,
-    requirement: &Requirement,
+    requirement: &Wanted,
 ) -> Result<(), OutOfMemory>
-    ensures { let w = spec.requirement_in requirement.now in
+    ensures { let w = spec.wanted_in requirement.now in
         OnOk result (out.new.items ≡ out.old.items ++ spec.line_if_held w (spec.signature_of given.now w)) }
 {
     match signature_of(alloc, given, requirement)? {
@@ -74,10 +70,10 @@ fn put_if_witnessed(
     alloc: Global,
     out: &mut Vec<u8>,
     given: &Given,
-    requirement: &Requirement,
+    requirement: &Wanted,
     wallet: &Wallet,
 ) -> Result<(), OutOfMemory>
-    ensures { let w = spec.requirement_in requirement.now in
+    ensures { let w = spec.wanted_in requirement.now in
         OnOk result (out.new.items ≡ out.old.items ++ spec.line_if_witnessed w wallet.now (spec.witness_of given.now w)) }
 {
     match witness_of(alloc, given, requirement)? {
@@ -91,9 +87,9 @@ fn put_if_held(
     alloc: Global,
     out: &mut Vec<u8>,
     given: &Given,
-    requirement: &Requirement,
+    requirement: &Wanted,
 ) -> Result<(), OutOfMemory>
-    ensures { OnOk result (out.new.items ≡ out.old.items ++ spec.told_if_held given.now (spec.requirement_in requirement.now)) }
+    ensures { OnOk result (out.new.items ≡ out.old.items ++ spec.told_if_held given.now (spec.wanted_in requirement.now)) }
 {
     match &requirement.input.wallet {
         None => put_if_signed(alloc, out, given, requirement),
@@ -108,9 +104,9 @@ fn put_all_unsettled(
     alloc: Global,
     out: &mut Vec<u8>,
     given: &Given,
-    requirements: &[Requirement],
+    requirements: &[Wanted],
 ) -> Result<(), OutOfMemory>
-    ensures { OnOk result (out.new.items ≡ out.old.items ++ flat_map (spec.told_if_unsettled given.now) (map spec.requirement_in requirements.now)) }
+    ensures { OnOk result (out.new.items ≡ out.old.items ++ flat_map (spec.told_if_unsettled given.now) (map spec.wanted_in requirements.now)) }
 {
     for requirement in requirements {
         put_if_unsettled(alloc, out, given, requirement)?;
@@ -123,9 +119,9 @@ fn put_all_held(
     alloc: Global,
     out: &mut Vec<u8>,
     given: &Given,
-    requirements: &[Requirement],
+    requirements: &[Wanted],
 ) -> Result<(), OutOfMemory>
-    ensures { OnOk result (out.new.items ≡ out.old.items ++ flat_map (spec.told_if_held given.now) (map spec.requirement_in requirements.now)) }
+    ensures { OnOk result (out.new.items ≡ out.old.items ++ flat_map (spec.told_if_held given.now) (map spec.wanted_in requirements.now)) }
 {
     for requirement in requirements {
         put_if_held(alloc, out, given, requirement)?;
@@ -138,9 +134,9 @@ pub(crate) fn put_gate_of(
     alloc: Global,
     out: &mut Vec<u8>,
     given: &Given,
-    requirements: &[Requirement],
+    requirements: &[Wanted],
 ) -> Result<(), OutOfMemory>
-    ensures { OnOk result (out.new.items ≡ out.old.items ++ spec.gate_by given.now (map spec.requirement_in requirements.now)) }
+    ensures { OnOk result (out.new.items ≡ out.old.items ++ spec.gate_by given.now (map spec.wanted_in requirements.now)) }
 {
     let unverified = any_unverified(alloc, given, requirements)?;
     put_gate(

@@ -5,7 +5,7 @@ ghost use Rattle.spec_deal.specs.DealText.{item_word};
 ghost use Rattle.deal_missing.specs.Required as spec;
 
 use crate::lines::{put_held, put_requirement};
-use crate::requirements::Requirement;
+use crate::requirements::Wanted;
 use bm_text::{put, put_hex};
 use deal_payees::pays_to_key_hash;
 use deal_signatures::{first_item, second_item};
@@ -39,10 +39,10 @@ fn put_items(alloc: Global, out: &mut Vec<u8>, items: &[Bytes]) -> Result<(), Ou
 fn put_listed(
     alloc: Global,
     out: &mut Vec<u8>,
-    requirement: &Requirement,
+    requirement: &Wanted,
     items: &[Bytes],
 ) -> Result<(), OutOfMemory>
-    ensures { OnOk result (out.new.items ≡ out.old.items ++ spec.items_line (spec.requirement_in requirement.now) items.now) }
+    ensures { OnOk result (out.new.items ≡ out.old.items ++ spec.items_line (spec.wanted_in requirement.now) items.now) }
 {
     put(out, b"witness ")?;
     put_requirement(alloc, out, requirement)?;
@@ -54,11 +54,11 @@ fn put_listed(
 pub(crate) fn put_witness(
     alloc: Global,
     out: &mut Vec<u8>,
-    requirement: &Requirement,
+    requirement: &Wanted,
     wallet: &Wallet,
     items: &[Bytes],
 ) -> Result<(), OutOfMemory>
-    ensures { OnOk result (out.new.items ≡ out.old.items ++ spec.witness_line (spec.requirement_in requirement.now) wallet.now items.now) }
+    ensures { OnOk result (out.new.items ≡ out.old.items ++ spec.witness_line (spec.wanted_in requirement.now) wallet.now items.now) }
 {
     if pays_to_key_hash(wallet.script.as_slice()) {
         let (key, signature) = (second_item(items), first_item(items));

@@ -22,4 +22,5 @@ pub use error::SignatureError;
 pub use given::Given;
 pub use reading::read_signatures;
 pub use refusals::put_signatures_refused;
+pub use required::narrow;
 pub use witnesses::{first_item, second_item};

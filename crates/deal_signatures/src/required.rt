@@ -75,7 +75,7 @@ impl Drop for Outstanding {
 }
 
 /// A number of 32 bits; a greater one counts as out of memory.
-pub(crate) fn narrow(number: usize) -> Result<u32, OutOfMemory>
+pub fn narrow(number: usize) -> Result<u32, OutOfMemory>
     ensures { IfOk result (λ n. n ≡ number) }
 {
     if number > u32::MAX as usize {

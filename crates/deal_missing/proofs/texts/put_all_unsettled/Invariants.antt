@@ -1,9 +1,9 @@
 use Rattle.std.proofs.Common.{◌≡◌, ◌++◌, map, drop}
 use Rattle.std.specs.List.{flat_map}
-use Rattle.deal_missing.specs.Required.{requirement_in, told_if_unsettled}
+use Rattle.deal_missing.specs.Required.{wanted_in, told_if_unsettled}
 use Rattle.deal_missing.proofs.texts.put_all_unsettled.Given as goal
 
 abbrev pub invariant-loop-requirement : goal.invariant-loop-requirement
 invariant-loop-requirement l =
-    l.out.items ++ flat_map (told_if_unsettled l.given) (map requirement_in (drop l.requirement-index l.requirements))
-    ≡ l.initial.out.items ++ flat_map (told_if_unsettled l.given) (map requirement_in l.requirements)
+    l.out.items ++ flat_map (told_if_unsettled l.given) (map wanted_in (drop l.requirement-index l.requirements))
+    ≡ l.initial.out.items ++ flat_map (told_if_unsettled l.given) (map wanted_in l.requirements)

@@ -2,14 +2,14 @@ use Rattle.std.proofs.Common.{◌++◌, List, ℕ, sym, ap, ◌∙◌, append_as
 use Rattle.std.specs.Prelude.{codes}
 use Rattle.std.proofs.lemmas.Result.{on_ok_weaker}
 use Rattle.spec_text.specs.RunText.{newline}
-use Rattle.deal_missing.specs.Required.{requirement_in, required_text, items_text}
+use Rattle.deal_missing.specs.Required.{wanted_in, required_text, items_text}
 use Rattle.deal_missing.proofs.Items.{items_line_is}
 use Rattle.deal_missing.proofs.witness_lines.put_listed.Goals as goal
 
 pub returns : goal.returns
 returns c =
     let old = c.args.out.now.items in
-    let w = requirement_in c.args.requirement.now in
+    let w = wanted_in c.args.requirement.now in
     let start = codes "witness " in
     let items = items_text c.args.items.now in
     on_ok_weaker c.put-2.result

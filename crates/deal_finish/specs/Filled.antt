@@ -10,7 +10,6 @@ use Rattle.spec_terms.specs.Paths.{at, contract_under}
 use Rattle.spec_terms.specs.Value.{holds}
 use Rattle.spec_terms.specs.declared.path.PathStep.{PathStep}
 use Rattle.spec_bitcoin.specs.declared.tx.Tx.{Tx}
-use Rattle.spec_bitcoin.specs.declared.tx.TxIn.{TxIn}
 use Rattle.spec_compiler.specs.Keyed.Statements.{secret_lengths}
 use Rattle.spec_compiler.specs.Witness.{witness_of}
 use Rattle.spec_run.specs.Firing.{with_witnesses}
@@ -104,8 +103,3 @@ witnesses_by advert given strings t = by_which advert given strings t.bytes t.in
 
 abbrev pub finished_by : Advert → List Signed → List Shown → Transaction → Tx
 finished_by advert given strings t = with_witnesses t.tx (witnesses_by advert given strings t)
-
--- the input with this witness, if there is one
-abbrev pub input_with : TxIn → Option (List (List ℕ)) → TxIn
-input_with input None = input
-input_with input (Some witness) = record input { witness = witness }

@@ -11,10 +11,10 @@ ghost use Rattle.deal_finish.specs.Filled.{finished_by};
 ghost use Rattle.deal_finish.specs.Finishes.{Finishes};
 
 use crate::error::FinishError;
-use crate::filling::with_witnesses;
 use crate::refusing::complete;
 use crate::witnesses::witnesses_of;
 use bm_tx::encode;
+use bm_tx_filled::with_witnesses;
 use bm_wellformed::Checked;
 use deal_secrets::Strings;
 use deal_signatures::Given;

@@ -4,7 +4,6 @@
 
 mod branches;
 mod error;
-mod filling;
 mod finishing;
 mod refusals;
 mod refusing;

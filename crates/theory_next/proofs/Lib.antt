@@ -27,5 +27,7 @@ pub mod FirstAdvert
 pub mod FirstHeld
 pub mod FirstEvents
 pub mod Asked
+pub mod LiveBegun
+pub mod Lacking
 pub mod Advertising
 pub mod Others

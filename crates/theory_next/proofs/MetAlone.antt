@@ -176,7 +176,7 @@ module _ (s : Setup) (es : List Event) (run : IsRun s es) (on : first_halt s es 
       (opening_all s es run z)).holds.honest.run.tracks
 
   -- a branch of an active contract is one of what is held
-  branch_held : (n i : ℕ) (b : term.Guarded) → branch_at g n i ≡ Some b
+  pub branch_held : (n i : ℕ) (b : term.Guarded) → branch_at g n i ≡ Some b
       → (held : ContractPosition) × (live_position_at w n ≡ Some held) × (position_branch s held i ≡ Some b)
   branch_held n i b h = by_output (slice_get w.outputs n) refl (sym (ap (λ a. branch_of g.contracts a i) look) ∙ h)
     where

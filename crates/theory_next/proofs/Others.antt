@@ -1,11 +1,13 @@
 -- An advertisement, a commitment, an endorsement, a signature of the initial transaction, a reveal or an authorisation for which nothing is said to be missing
 -- can come, unless it halts the run.
 use Rattle.std.proofs.Common.{◌≡◌, ℕ, List, [], ◌∷◌, ◌++◌, map, Bool, true, false, Option, Some, None, refl, sym, ap, ◌∙◌, subst, inl, inr, ◌⊎◌, arith}
-use Rattle.std.specs.Prelude.{not, ◌||◌, ◌&&◌, ◌==◌, is_some, if◌then◌else◌}
+use Rattle.std.specs.Prelude.{not, ◌||◌, ◌&&◌, ◌==◌, is_some, if◌then◌else◌, slice_get}
 use Rattle.std.specs.List.{Contains, filter, list_all, list_any}
 use Rattle.std.specs.Str.{bytes_eq}
 use Rattle.std.proofs.lemmas.Bool.{and_parts, and_from, or_right, false≢true}
+use Rattle.std.proofs.lemmas.Bool.{eqb-true}
 use Rattle.std.proofs.lemmas.Slice.Eq.{bytes_eq-Decides}
+use Rattle.std.specs.Option.{option_and_then}
 use Rattle.spec_data.specs.Lists.{is_among, are_different, has_number, first_reason, look_up}
 use Rattle.spec_data.specs.Messages.{collision}
 use Rattle.spec_bitcoin.specs.Keys.{Pair}
@@ -18,6 +20,9 @@ use Rattle.spec_calculus.specs.declared.parts.Revealed.{Revealed}
 use Rattle.spec_calculus.specs.Configuration.{Configuration}
 use Rattle.spec_calculus.specs.Beginning as calculus
 use Rattle.spec_calculus.specs.Beginning.{has_committed, participants_of}
+use Rattle.spec_calculus.specs.declared.parts.ActiveContract.{ActiveContract}
+use Rattle.spec_calculus.specs.Branches.{active_at, advert_of, contract_number, is_revealed}
+use Rattle.spec_run.specs.Agreement.{active_in, active_by}
 use Rattle.spec_run.specs.declared.event.Event.{Event}
 use Rattle.spec_run.specs.declared.event.Event.TheVariants as events
 use Rattle.spec_run.specs.declared.header.HeldSecret.{HeldSecret}
@@ -26,8 +31,9 @@ use Rattle.spec_run.specs.declared.outcome.Reason.{Reason}
 use Rattle.spec_run.specs.declared.outcome.Reason.TheVariants as reason
 use Rattle.spec_run.specs.Setup.{Setup, contract_at, has_contract, takes_part, people_at, pre_at, is_honest, held_secret}
 use Rattle.spec_run.specs.Setup.{bytes_or_none}
+use Rattle.spec_run.specs.World.{ContractPosition, Output, live_position, live_position_at}
 use Rattle.spec_run.specs.World.{World, output_at, is_deposit, is_advertised, has_promised, have_promised}
-use Rattle.spec_run.specs.Compiled.{compiled_instance, instance_of}
+use Rattle.spec_run.specs.Compiled.{compiled_instance, instance_if_complete, instance_of, is_complete}
 use Rattle.spec_compiler.specs.Instance.{Instance}
 use Rattle.spec_compiler.specs.Endorsements.{Need, is_met, missing_endorsement}
 use Rattle.spec_run.specs.Advertising.{are_rearranged, arranged, not_live, unsuited, deposit_names, advertise_row}
@@ -40,7 +46,7 @@ use Rattle.spec_run.specs.Revealing.{own_secret, reveal_row}
 use Rattle.spec_run.specs.Secrets.{digest_at}
 use Rattle.spec_run.specs.Signing.{with_pairs, needs_at, pairs_of_party, endorsing_pairs, endorse_row, initial_pairs, missing_need, missed_need}
 use Rattle.spec_run.specs.Signing.{not_endorsed, init_row}
-use Rattle.spec_run.specs.Translation.{last_configuration, last_world}
+use Rattle.spec_run.specs.Translation.{last_configuration, last_world, first_halt}
 use Rattle.spec_run.specs.Statements.{IsRun, spends_with_leave}
 use Rattle.spec_next.specs.declared.outlook.Ruling.{Ruling}
 use Rattle.spec_next.specs.declared.outlook.Ruling.TheVariants as rulings
@@ -51,24 +57,31 @@ use Rattle.spec_next.specs.Candidates.{are_signed, has_endorsed}
 use Rattle.spec_next.specs.Hands.{is_in_hand}
 use Rattle.spec_next.specs.Prospects.{is_ahead, is_never, is_string_posted, decisive, lasting, outstanding, prospect, requirements_by, ruling, ruling_by, ruling_of}
 use Rattle.spec_next.specs.Requirements.{Condition, agreed, begun, bound, digests_told, endorsed, endorsed_for, unmet}
+use Rattle.spec_next.specs.Requirements.{requirements_of}
 use Rattle.theory_calculus.specs.Members.{Is_in}
-use Rattle.theory_calculus.proofs.Members.{in_append, in_from_contains, all_map}
-use Rattle.theory_calculus.proofs.Names.{bytes_refl, different_names, deposits_different, in_looked}
+use Rattle.theory_calculus.proofs.Members.{in_append, in_from_contains, contains_from_in, all_map}
+use Rattle.theory_calculus.proofs.Names.{bytes_refl, all_among, different_names, deposits_different, in_looked, looked_in}
 use Rattle.theory_script.proofs.Missing.{none_unmet}
 use Rattle.theory_world.proofs.Contracts.Checking.{all_checked}
 use Rattle.theory_world.proofs.Later.{compiled_from}
+use Rattle.theory_world.proofs.Ledger.Outputs.{active-at}
 use Rattle.theory_world.proofs.Tests.{any_map}
 use Rattle.theory_run.specs.KeptSecrets.{committed_by, is_own}
 use Rattle.theory_run.specs.Tracks.{Tracks}
 use Rattle.theory_run.proofs.Events.Advertised.{none_is}
 use Rattle.theory_run.proofs.Following.{run_posts, kept_at_end}
+use Rattle.theory_offers.specs.Begun.{is_endorsed_so, is_endorsed_at}
+use Rattle.theory_offers.proofs.BegunInRun.{endorsed_before_start}
 use Rattle.theory_offers.proofs.WholeRun.{KeptAll, opening_all, keeps_all}
 use Rattle.theory_next.specs.Others.{OthersComeTheorem}
 use Rattle.theory_next.specs.Ready.{CanUnlessHalts}
 use Rattle.theory_next.proofs.Advertising.{BoundWell, bound_well, rearranged_same, live_at, suits_at}
 use Rattle.theory_next.proofs.Exact.{all_met, from_map}
+use Rattle.theory_next.proofs.Exact.{none_unmet as none_unmet_of}
 use Rattle.theory_next.proofs.FirstNeeds.{needed_take_part}
 use Rattle.theory_next.proofs.FirstRun.{from_among}
+use Rattle.theory_next.proofs.Lacking.{lacks_of, secret_takes_part, unposted}
+use Rattle.theory_next.proofs.LiveBegun.{live_has_begun}
 use Rattle.theory_next.proofs.MetAlone as alone
 use Rattle.theory_next.proofs.Ready.{met_parts}
 use Rattle.theory_next.proofs.Waits.{comes_unless}
@@ -593,6 +606,107 @@ module _ (s : Setup) (es : List Event) (run : IsRun s es) where
             ∷ (unposted i, reason.AlreadyRevealed)
             ∷ [])
 
+-- ---- secrets that are missing
+
+all_numbers : (f : ℕ → Bool) (ns : List ℕ) (k : ℕ) → list_all f ns ≡ true → has_number k ns ≡ true → f k ≡ true
+all_numbers f [] k h i = absurd (false≢true i)
+all_numbers f (n ∷ ns) k h i = by_first (n == k) refl i (all_numbers f ns k (and_parts (f n) (list_all f ns) h).1)
+  where
+    by_first : (b : Bool) → (n == k) ≡ b → (b || has_number k ns) ≡ true → (has_number k ns ≡ true → f k ≡ true) → f k ≡ true
+    by_first true e j later = subst (λ (m : ℕ). f m ≡ true) (eqb-true n k e) (and_parts (f n) (list_all f ns) h).0
+    by_first false e j later = later j
+
+module _ (s : Setup) (es : List Event) (run : IsRun s es) (on : first_halt s es ≡ None) where
+  abbrev here : Configuration
+  here = last_configuration s es
+
+  abbrev now : World
+  now = last_world s es
+
+  -- a live position is of the contract that the calculus has there
+  number_is : (n : ℕ) (held : ContractPosition) → live_position_at now n ≡ Some held → contract_number (active_at here.active n) ≡ held.contract
+  number_is n held live = ap contract_number look ∙ by_output (slice_get now.outputs n) refl
+    where
+      look : active_at here.active n ≡ option_and_then (active_in n) (slice_get now.outputs n)
+      look = ap (λ xs. active_at xs n) (tracks s es run).money.active ∙ active-at n now.outputs
+
+      by_output : (o : Option Output) → slice_get now.outputs n ≡ o → contract_number (option_and_then (active_in n) o) ≡ held.contract
+      by_output None e = let z : (let x : Option ContractPosition = None in x) ≡ Some held = sym (ap live_position e) ∙ live in cc
+      by_output (Some o) e =
+          ap (λ (p : Option ContractPosition). contract_number (active_by n o.value p)) (sym (ap live_position e) ∙ live)
+
+  -- the contract of a number, which has this secret of this party
+  record HasSecret (k : ℕ) (party secret : List ℕ) : Type 0 where
+    a : Advert
+    at : calculus.contract_at here.contracts k ≡ Some a
+    there : Is_in (secret, party) (secrets a.pre)
+
+  has_secret_of : (k : ℕ) (party secret : List ℕ) (o : Option ActiveContract) → contract_number o ≡ k
+      → look_up secret (secrets (calculus.pre_of (advert_of here.contracts o))) ≡ Some party → HasSecret k party secret
+  has_secret_of k party secret None e h = cc
+  has_secret_of k party secret (Some active) e h =
+      by_advert (calculus.contract_at here.contracts k) refl
+      (subst (λ (m : ℕ). look_up secret (secrets (calculus.pre_of (calculus.contract_at here.contracts m))) ≡ Some party) e h)
+    where
+      by_advert : (o : Option Advert) → calculus.contract_at here.contracts k ≡ o → look_up secret (secrets (calculus.pre_of o)) ≡ Some party
+          → HasSecret k party secret
+      by_advert None q f = cc
+      by_advert (Some a) q f = record { a = a; at = q; there = looked_in (secrets a.pre) secret party f }
+
+  -- a contract that has begun is advertised, and all have committed
+  complete : (k : ℕ) (a : Advert) → contract_at s k ≡ Some a → has_number k now.begun ≡ true → is_complete now k a ≡ true
+  complete k a same h =
+      by_instance (compiled_instance s now k) refl
+      (all_numbers (is_endorsed_at s now) now.begun k (endorsed_before_start s es run).after h)
+    where
+      by_complete : (b : Bool) → is_complete now k a ≡ b → (st : Instance) → (if b then Some (instance_of now k a) else None) ≡ Some st
+          → is_complete now k a ≡ true
+      by_complete true e st q = e
+      by_complete false e st q = cc
+
+      by_instance : (o : Option Instance) → compiled_instance s now k ≡ o → is_endorsed_so s now o ≡ true → is_complete now k a ≡ true
+      by_instance None e f = absurd (false≢true f)
+      by_instance (Some st) e f = by_complete (is_complete now k a) refl st (sym (ap (instance_if_complete now k) same) ∙ e)
+
+  shows : (n i : ℕ) (party : List ℕ) (k : ℕ) (secret : List ℕ)
+      → Contains (requirements_of s here now (events.Fire n i)) (requirements.Secret party k secret) → CanUnlessHalts s now (events.Reveal k party secret)
+  shows n i party k secret missing =
+      let l = lacks_of s here n i party k secret (in_from_contains (requirements_of s here now (events.Fire n i)) (requirements.Secret party k secret) missing) in
+      let held = alone.branch_held s es run on n i l.b l.here in
+      let number : held.0.contract ≡ k = sym (number_is n held.0 held.1) ∙ l.number in
+      let began : has_number k now.begun ≡ true =
+      subst (λ (m : ℕ). has_number m now.begun ≡ true) number (live_has_begun s es run n held.0 held.1) in
+      let a = has_secret_of k party secret (active_at here.active n) l.number l.lacks.owner in
+      by_complete a.a a.at a.there l.lacks.is_honest' l.lacks.hidden began (complete k a.a (same_contract s es run k a.a a.at) began)
+    where
+      by_complete : (a : Advert) → calculus.contract_at here.contracts k ≡ Some a → Is_in (secret, party) (secrets a.pre)
+          → is_honest s party ≡ true → is_revealed here.revealed k party secret ≡ false → has_number k now.begun ≡ true
+          → is_complete now k a ≡ true → CanUnlessHalts s now (events.Reveal k party secret)
+      by_complete a at there honest hidden began whole =
+          let q = and_parts (is_advertised now k) (have_promised now k (participants a)) whole in
+          let promised : has_promised now k party ≡ true =
+          all_among (has_promised now k) (participants a) party q.1 (secret_takes_part a party secret there) in
+          let told : calculus.is_advertised here.advertised k ≡ true = ap (λ xs. calculus.is_advertised xs k) (tracks s es run).advertised ∙ q.0 in
+          let committed : has_committed here.committed k party ≡ true = committed_is s es run k party ∙ promised in
+          let x : Revealed = record { contract = k; party = party; secret = secret } in
+          let kept = (tracks s es run).secrets in
+          let named : is_among secret (secrets_at s k party) ≡ true =
+          subst (λ (o : Option Advert). is_among secret (names_of_party party (secrets (calculus.pre_of o))) ≡ true)
+          (sym (same_contract s es run k a at)) (its_name party secret (secrets a.pre) there) in
+          reveals s es run k a at party secret (contains_from_in (secrets a.pre) (secret, party) there) honest
+          (ahead (held_secret s party secret) refl
+          (λ bytes e. unposted s now.hashed now.posted (held_secret s party secret) (digest_at now.promises x) (kept.own x honest)
+          (kept.full x promised named) (sym (kept.revealed x) ∙ hidden) bytes e))
+          (none_unmet_of (begun here now k party)
+          (and_from (calculus.is_advertised here.advertised k) _ told
+          (and_from (has_committed here.committed k party) _ committed (and_from (has_number k now.begun) true began refl))))
+        where
+          ahead : (o : Option (List ℕ)) → held_secret s party secret ≡ o
+              → ((bytes : List ℕ) → held_secret s party secret ≡ Some bytes → is_among bytes now.posted ≡ false)
+              → not (is_string_posted (held_secret s party secret) now) ≡ true
+          ahead None e f = ap (λ (o : Option (List ℕ)). not (is_string_posted o now)) e
+          ahead (Some bytes) e f = ap (λ (o : Option (List ℕ)). not (is_string_posted o now)) e ∙ ap not (f bytes e)
+
 -- ---- all
 
 pub others_come : OthersComeTheorem
@@ -616,6 +730,7 @@ others_come s es run on = record {
       unless_refused s (last_configuration s es) (last_world s es) (events.Reveal k party secret) said
       (λ r. reveals s es run k advert at party secret stands honest ahead
       (none_in_hand s (last_configuration s es) (last_world s es) _ (begun_plain s es run k advert at party) r.nothing));
+  shown = λ n i party k secret missing. shows s es run on n i party k secret missing;
   authorisations = λ party n i b declared here asked.
       comes_unless s (last_world s es) (events.Authorise party n i)
       (ap (λ d. ruling_by d.outcome) (alone.is_done s es run on party n i declared b here asked));

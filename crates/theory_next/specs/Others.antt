@@ -16,7 +16,9 @@ use Rattle.spec_run.specs.Setup.{Setup, is_declared, is_honest}
 use Rattle.spec_run.specs.Translation.{last_configuration, last_world, first_halt}
 use Rattle.spec_run.specs.Statements.{IsRun}
 use Rattle.spec_next.specs.Candidates.{advertising}
+use Rattle.spec_next.specs.declared.requirement.Requirement.TheVariants as requirements
 use Rattle.spec_next.specs.Prospects.{is_ahead, prospect}
+use Rattle.spec_next.specs.Requirements.{requirements_of}
 use Rattle.theory_next.specs.Ready.{CanUnlessHalts}
 
 -- nothing is said to be missing for the event
@@ -50,6 +52,10 @@ pub record OthersCome (s : Setup) (es : List Event) : Type 0 where
   pub reveals : (k : ℕ) (advert : Advert) (party secret : List ℕ) → IsNumberOf s es k advert
       → Contains (secrets advert.pre) (secret, party) → is_honest s party ≡ true
       → is_ahead s (last_world s es) (events.Reveal k party secret) ≡ true → NothingSaid s es (events.Reveal k party secret)
+      → ComesAfter s es (events.Reveal k party secret)
+  -- so each secret of an honest party that is missing for a branch is shown by its reveal, which can come
+  pub shown : (n i : ℕ) (party : List ℕ) (k : ℕ) (secret : List ℕ)
+      → Contains (requirements_of s (last_configuration s es) (last_world s es) (events.Fire n i)) (requirements.Secret party k secret)
       → ComesAfter s es (events.Reveal k party secret)
   -- whoever is declared and asked can authorise a branch, for which nothing is ever missing
   pub authorisations : (party : List ℕ) (n i : ℕ) (b : term.Guarded) → is_declared s party ≡ true

@@ -6,6 +6,7 @@ mod Formed
 mod SvgParts
 mod SvgApart
 mod SvgTold
+mod SvgValues
 mod Runs
 mod Told
 mod Numbered

@@ -1,0 +1,7 @@
+mod ChainLines
+mod LeftOut
+mod PaidApart
+mod LiveMaps
+mod KeyScripts
+mod Taken
+mod CollisionVectors

@@ -1,0 +1,4 @@
+pub mod ChainLines
+pub mod LeftOut
+pub mod LiveMaps
+pub mod Taken

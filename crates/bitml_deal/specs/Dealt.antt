@@ -57,6 +57,10 @@ use Rattle.theory_chain.specs.Reasons.{BadExactly}
 use Rattle.theory_chain.specs.Refused.{AcceptedExactly, CannotIsRefused, NotAskedIsSpent}
 use Rattle.theory_chain.specs.RequirementOrder.{RequirementsInOrder, WaitsExactly}
 use Rattle.theory_chain.specs.Revealed.{RevealedExactly, RevealedOnce, SecretsExactly}
+use Rattle.theory_follow.specs.ChainLines.{ChainsCome}
+use Rattle.theory_follow.specs.LeftOut.{AsidesLeftOut}
+use Rattle.theory_follow.specs.LiveMaps.{LedgersFollow}
+use Rattle.theory_follow.specs.Taken.{TakenStands}
 use Rattle.theory_state.specs.Causes.{causes as chain_causes}
 use Rattle.theory_state.specs.StateAnswers.{IfStands}
 use Rattle.theory_wallets.specs.Addresses.{AddressesOfDeals}
@@ -233,6 +237,8 @@ pub record FollowsChains : Type 0 where
   pub refused : RefusedExactly
   -- by the first of the reasons that holds, each in words of its own
   pub bad : BadExactly
+  -- so a chain file comes to what its lines come to
+  pub lines : ChainsCome
   -- each transaction of the deal is one that the ledger accepts where it stands, if every signature is good
   pub own : OwnIsAccepted
   -- secrets are known and revealed exactly where the chain or the file of secrets shows them
@@ -241,6 +247,11 @@ pub record FollowsChains : Type 0 where
   pub once : RevealedOnce
   -- what has nothing to do with the deal may stand anywhere in the chain or be left out
   pub aside : AsideAnywhere
+  -- however much of it, and no strings collide that didn't
+  pub asides : AsidesLeftOut
+  -- what ledgers have of the deal is what is live, transaction by transaction, and a chain whose transactions they take stands
+  pub ledgers : LedgersFollow
+  pub taken : TakenStands
 
 -- what may come next: what is missing stands in order and once, and names those who can give it
 pub record ForeseesChains : Type 0 where

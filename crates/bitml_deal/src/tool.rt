@@ -30,6 +30,7 @@ use theory_deal::{
     plan_of_runs, scripts_are_payable, secret_files_are_read, signature_files_are_read,
     signatures_verify, witnesses_verify,
 };
+use theory_follow::{asides_left_out, chains_come, ledgers_follow, taken_stands};
 use theory_script::any_keys::script_theorem;
 use theory_state::{chain_statuses_have_causes, state_answers};
 use theory_wallets::{
@@ -135,6 +136,10 @@ pub fn deal_tool<H: Hash32 + Drop, F: Files, S: Sink>(
     revealed_exactly();
     revealed_once();
     aside_anywhere();
+    chains_come();
+    asides_left_out();
+    ledgers_follow();
+    taken_stands();
     requirements_in_order();
     waits_exactly();
     accepted_exactly();

@@ -1,6 +1,6 @@
 -- The secrets that a transaction shows, by the digests of the items of its witnesses.
 use Rattle.std.proofs.Common.{◌≡◌, ℕ, List, [], ◌∷◌, ◌++◌, map, Bool, true, false, not, ◌&&◌, cond, Option, Some, None}
-use Rattle.std.proofs.Common.{refl, ap, ◌∙◌}
+use Rattle.std.proofs.Common.{refl, sym, ap, ◌∙◌}
 use Rattle.std.specs.Prelude.{filter, is_some, if◌then◌else◌}
 use Rattle.std.specs.List.{find}
 use Rattle.std.specs.Option.{option_map}
@@ -11,8 +11,9 @@ use Rattle.spec_bitcoin.specs.declared.tx.Tx.{Tx}
 use Rattle.spec_compiler.specs.Scripts.{digest_of}
 use Rattle.spec_compiler.specs.Keyed.Instance.{Instance}
 use Rattle.spec_deal.specs.Finished.{bytes_or_none}
+use Rattle.spec_deal.specs.SecretFile.{has_length}
 use Rattle.spec_chain.specs.Following.{State, is_string_of, string_shown, is_newly_shown, newly_shown, strings_shown, items_in}
-use Rattle.deal_follow.specs.Seen.{hashed_items}
+use Rattle.deal_follow.specs.Seen.{hashed_items, likely_items}
 use Rattle.deal_follow.specs.Showing.{is_string_in, string_in, newly_string, secret_if, string_if, secrets_by, strings_by}
 
 -- the digest of a secret that has one
@@ -39,12 +40,28 @@ module _ (hash : List ℕ → List ℕ) where
       by true h = refl
       by false h = h
 
-  module _ (s : Instance) (state : State) (tx : Tx) (items : List (List ℕ × List ℕ)) (are : items ≡ hashed_items hash (items_in tx)) where
+  -- none that has another length is one
+  string_likely : (digest : List ℕ) (items : List (List ℕ))
+      → find (is_string_of hash digest) (filter has_length items) ≡ find (is_string_of hash digest) items
+  string_likely digest [] = refl
+  string_likely digest (item ∷ items) = by (has_length item) refl (string_likely digest items)
+    where
+      by : (b : Bool) → has_length item ≡ b
+          → find (is_string_of hash digest) (filter has_length items) ≡ find (is_string_of hash digest) items
+          → find (is_string_of hash digest) (cond b (item ∷ filter has_length items) (filter has_length items))
+          ≡ cond (is_string_of hash digest item) (Some item) (find (is_string_of hash digest) items)
+      by true e h = ap (cond (is_string_of hash digest item) (Some item)) h
+      by false e h =
+          h ∙ ap (λ (t : Bool). cond (t && bytes_eq (hash item) digest) (Some item) (find (is_string_of hash digest) items)) (sym e)
+
+  module _ (s : Instance) (state : State) (tx : Tx) (items : List (List ℕ × List ℕ)) (are : items ≡ hashed_items hash (likely_items tx)) where
     abbrev newly : List ℕ → Option (List ℕ)
     newly name = newly_string s.hashes state.shown items name
 
     shown_here : (name : List ℕ) → string_in (digest_of s.hashes name) items ≡ string_shown hash s tx name
-    shown_here name = ap (string_in (digest_of s.hashes name)) are ∙ string_hashed (digest_of s.hashes name) (items_in tx)
+    shown_here name =
+        ap (string_in (digest_of s.hashes name)) are ∙ string_hashed (digest_of s.hashes name) (likely_items tx)
+        ∙ string_likely (digest_of s.hashes name) (items_in tx)
 
     unless : (b : Bool) (o : Option (List ℕ)) → is_some (if b then None else o) ≡ (not b && is_some o)
     unless true o = refl

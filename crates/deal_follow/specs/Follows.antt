@@ -9,12 +9,11 @@ use Rattle.spec_chain.specs.declared.output.Output.{Output}
 use Rattle.spec_chain.specs.declared.reading.Confirmed.{Confirmed}
 use Rattle.spec_chain.specs.Chain as chain
 use Rattle.spec_chain.specs.Chain.{Followed, stands, refused, collided, follow}
-use Rattle.spec_chain.specs.Following.{items_in}
 use Rattle.deal_follow.specs.declared.error.ChainError.{ChainError}
 use Rattle.deal_follow.specs.declared.error.ChainError.TheVariants as errors
 use Rattle.deal_follow.specs.declared.following.Course.{Course}
 use Rattle.deal_follow.specs.declared.hashing.Strings.{Strings}
-use Rattle.deal_follow.specs.Seen.{item_in, hashed_items, course_in}
+use Rattle.deal_follow.specs.Seen.{item_in, hashed_items, likely_items, course_in}
 
 abbrev pub numbers_of : List Output → List ℕ
 numbers_of outputs = map (λ (o : Output). o.number) outputs
@@ -22,7 +21,7 @@ numbers_of outputs = map (λ (o : Output). o.number) outputs
 -- what is known of a transaction once its strings are hashed
 pub record HasRead (hash : List ℕ → List ℕ) (tx : Tx) (s : Strings) : Type 0 where
   pub txid_is : s.txid ≡ txid hash tx
-  pub items : map item_in s.items.items ≡ hashed_items hash (items_in tx)
+  pub items : map item_in s.items.items ≡ hashed_items hash (likely_items tx)
 
 -- two different messages with one digest, the earlier one first
 abbrev pub Evidence : Type 0

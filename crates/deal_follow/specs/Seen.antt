@@ -1,12 +1,14 @@
 -- What the code keeps of a chain, as the definitions have it.
-use Rattle.std.specs.Prelude.{ℕ, List, map}
+use Rattle.std.specs.Prelude.{ℕ, List, filter, map}
+use Rattle.spec_bitcoin.specs.declared.tx.Tx.{Tx}
 use Rattle.spec_bitcoin.specs.declared.tx.TxIn.{TxIn}
 use Rattle.spec_calculus.specs.declared.step.Step.{Step}
 use Rattle.spec_calculus.specs.declared.step.Step.TheVariants as steps
 use Rattle.spec_deal.specs.Needed.{deal_contract}
+use Rattle.spec_deal.specs.SecretFile.{has_length}
 use Rattle.spec_chain.specs.declared.happened.Happened.{Happened}
 use Rattle.spec_chain.specs.Chain as chain
-use Rattle.spec_chain.specs.Following.{State}
+use Rattle.spec_chain.specs.Following.{State, items_in}
 use Rattle.bm_hash.specs.declared.messages.TrailError.{TrailError}
 use Rattle.bm_hash.specs.declared.messages.TrailError.TheVariants as trails
 use Rattle.deal_follow.specs.declared.error.ChainError.{ChainError}
@@ -28,6 +30,10 @@ error_of trails.Memory = errors.Memory
 
 abbrev pub witness_in : TxIn → List (List ℕ)
 witness_in input = input.witness
+
+-- the items of a transaction's witnesses that have as many bytes as a secret may have, input by input
+abbrev pub likely_items : Tx → List (List ℕ)
+likely_items tx = filter has_length (items_in tx)
 
 -- an item and its digest
 abbrev pub item_in : Item → List ℕ × List ℕ

@@ -18,7 +18,7 @@ use crate::board::Board;
 use crate::error::ChainError;
 use crate::event::Event;
 use crate::going_on::{go_on, outcome_of};
-use crate::hashing::{Strings, hash_strings, items_in, with_digests};
+use crate::hashing::{Strings, hash_strings, with_digests};
 use crate::outputs::deposit_outputs;
 use crate::refusal::refusal;
 use crate::standing::Standing;
@@ -118,9 +118,8 @@ fn take<H: Hash32 + Drop>(
         Goes hash (setting board.now) board.now.transactions.now confirmed.now (evidence_of hash trail.new.messages)
         (course_in trail.old.messages course.old) (course_in trail.new.messages course.new) result }
 {
-    let items = items_in(alloc, &confirmed.tx)?;
-    let txid = hash_strings(alloc, trail, &confirmed.tx, &items)?;
-    let items = with_digests(alloc, trail.hasher(), &items)?;
+    let txid = hash_strings(alloc, trail, &confirmed.tx)?;
+    let items = with_digests(alloc, trail.hasher(), &confirmed.tx)?;
     let strings = Strings { txid, items };
     take_hashed(alloc, trail.hasher(), board, course, confirmed, &strings)
 }

@@ -6,37 +6,23 @@ ghost use Rattle.spec_data.specs.Lists.{look_up};
 ghost use Rattle.spec_terms.specs.Precondition.{secrets};
 ghost use Rattle.spec_compiler.specs.Scripts.{digest_of as hash_for};
 ghost use Rattle.spec_bitcoin.specs.declared.tx.Tx.{Tx as Confirmed};
-ghost use Rattle.spec_deal.specs.SecretFile.{has_length};
 ghost use Rattle.spec_chain.specs.Following as spec;
 ghost use Rattle.deal_follow.specs.Boards.{setting};
-ghost use Rattle.deal_follow.specs.Seen.{state_in, item_in, hashed_items};
+ghost use Rattle.deal_follow.specs.Seen.{state_in, item_in, hashed_items, likely_items};
 ghost use Rattle.deal_follow.specs.Showing.{is_string_in, string_in, newly_string, secret_if, string_if, secrets_by, strings_by};
 
 use crate::board::Board;
-use crate::hashing::Item;
+use crate::hashing::{Item, has_length};
 use crate::standing::Standing;
 use spec_data::{Bytes, Name, OutOfMemory};
 use spec_terms::Pre;
 use std::alloc::{AllocError, Global};
-
-// The fewest bytes of a secret.
-const LEAST_BYTES: usize = 16;
-
-// The most bytes of an item of a witness.
-const MOST_BYTES: usize = 520;
 
 /// The secrets that a transaction is the first to show, each with whose it is, and their strings.
 #[derive(Drop)]
 pub(crate) struct Shows {
     pub(crate) secrets: Vec<(Name, Name)>,
     pub(crate) strings: Vec<(Name, Bytes)>,
-}
-
-// Whether a string has as many bytes as a secret may have.
-fn has_length(bytes: &[u8]) -> bool
-    ensures { result ≡ has_length bytes.now }
-{
-    LEAST_BYTES <= bytes.len() && bytes.len() <= MOST_BYTES
 }
 
 // Whether an item is the string of the secret that has this digest.
@@ -159,16 +145,16 @@ fn all_shown(
     })
 }
 
-/// What a transaction is the first to show, by the items of its witnesses.
+/// What a transaction is the first to show, by the items of its witnesses that have as many bytes as a secret may have.
 pub(crate) fn shown_by(
     alloc: Global,
     board: &Board,
     standing: &Standing,
     items: &[Item],
 ) -> Result<Shows, OutOfMemory>
-    ensures secrets { (hash : List ℕ → List ℕ) (tx : Confirmed) → map item_in items.now ≡ hashed_items hash (spec.items_in tx)
+    ensures secrets { (hash : List ℕ → List ℕ) (tx : Confirmed) → map item_in items.now ≡ hashed_items hash (likely_items tx)
         → IfOk result (λ x. x.secrets.items ≡ spec.newly_shown hash (setting board.now) (state_in standing.now) tx) }
-    ensures strings { (hash : List ℕ → List ℕ) (tx : Confirmed) → map item_in items.now ≡ hashed_items hash (spec.items_in tx)
+    ensures strings { (hash : List ℕ → List ℕ) (tx : Confirmed) → map item_in items.now ≡ hashed_items hash (likely_items tx)
         → IfOk result (λ x. x.strings.items ≡ spec.strings_shown hash (setting board.now) (state_in standing.now) tx) }
 {
     let pre = &board.checked.advert().pre;

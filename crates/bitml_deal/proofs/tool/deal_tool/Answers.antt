@@ -48,6 +48,10 @@ returns g c =
         revealed = c.revealed_exactly.ensures;
         once = c.revealed_once.ensures;
         aside = c.aside_anywhere.ensures;
+        lines = c.chains_come.ensures;
+        asides = c.asides_left_out.ensures;
+        ledgers = c.ledgers_follow.ensures;
+        taken = c.taken_stands.ensures;
       };
       foresees = record {
         in_order = c.requirements_in_order.ensures;

@@ -7,7 +7,7 @@ use Rattle.deal_follow.proofs.following.take.Goals as goal
 
 pub returns-in_err-txid-clause-goes : goal.returns-in_err-txid-clause-goes
 returns-in_err-txid-clause-goes g c =
-    let p = err_from_is_err_and c.from_residual-in_err-txid.result c.from_residual-in_err-txid.ensures.1 in
+    let p = err_from_is_err_and c.from_residual.result c.from_residual.ensures.1 in
     let later = c.hash_strings.new.trail.messages in
     rw (p.1, p.2)
     (hashing_ends (Unit {0}) (g.H.Hash32.digest_of c.args.trail.now.hasher) (setting c.args.board.now) c.args.board.now.transactions.now

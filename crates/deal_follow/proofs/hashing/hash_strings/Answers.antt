@@ -1,8 +1,7 @@
-use Rattle.std.proofs.Common.{◌++◌, ◌∙◌, subst}
+use Rattle.std.proofs.Common.{◌∙◌}
 use Rattle.std.proofs.lemmas.Result.{err_from_is_err_and}
 use Rattle.spec_bitcoin.specs.Digests.{txid_strings}
 use Rattle.spec_chain.specs.Following.{items_in}
-use Rattle.bm_hash.specs.Trails.{Stops}
 use Rattle.bm_hash.proofs.HashesLemmas.{Stops-first}
 use Rattle.bm_hash.proofs.Chains.{stops_then}
 use Rattle.deal_follow.proofs.hashing.hash_strings.Goals as goal
@@ -17,17 +16,15 @@ returns-in_err-txid-clause-trail g c =
       Stops-first hash _ _ (txid_strings hash c.args.tx.now) (items_in c.args.tx.now) _ c.in_err-txid.ensures.trail.2,
     )
 
-pub returns-in_err-hash_all-clause-trail : goal.returns-in_err-hash_all-clause-trail
-returns-in_err-hash_all-clause-trail g c =
-    let p = err_from_is_err_and c.from_residual-in_err-hash_all.result c.from_residual-in_err-hash_all.ensures.1 in
+pub returns-in_err-hash_items-clause-trail : goal.returns-in_err-hash_items-clause-trail
+returns-in_err-hash_items-clause-trail g c =
+    let p = err_from_is_err_and c.from_residual-in_err-hash_items.result c.from_residual-in_err-hash_items.ensures.1 in
     let digest = g.H.Hash32.digest_of in
     let first = c.args.trail.now.hasher in
     let ids = txid_strings (digest first) c.args.tx.now in
     rw (p.1, p.2) (
-      c.in_err-hash_all.ensures.0 ∙ c.in_ok-txid.ensures.trail.0,
+      c.in_err-hash_items.ensures.0 ∙ c.in_ok-txid.ensures.trail.0,
       tt,
-      subst (λ items. Stops (digest first) c.args.trail.now.messages c.hash_all.new.trail.messages (ids ++ items) c.in_err-hash_all.field-0.0)
-          c.requires.items
-          (stops_then digest first _ _ _ _ ids (λ h. c.args.items.now) _ c.in_ok-txid.ensures.trail.0 c.in_ok-txid.ensures.trail.1
-          c.in_err-hash_all.ensures.2),
+      stops_then digest first _ _ _ _ ids (λ h. items_in c.args.tx.now) _ c.in_ok-txid.ensures.trail.0 c.in_ok-txid.ensures.trail.1
+          (rw c.as_slice.ensures at c.in_err-hash_items.ensures.2),
     )

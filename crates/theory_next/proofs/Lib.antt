@@ -30,4 +30,5 @@ pub mod Asked
 pub mod LiveBegun
 pub mod Lacking
 pub mod Advertising
+pub mod NothingSaid
 pub mod Others

@@ -2,14 +2,13 @@
 -- can come, unless it halts the run.
 use Rattle.std.proofs.Common.{◌≡◌, ℕ, List, [], ◌∷◌, ◌++◌, map, Bool, true, false, Option, Some, None, refl, sym, ap, ◌∙◌, subst, inl, inr, ◌⊎◌, arith}
 use Rattle.std.specs.Prelude.{not, ◌||◌, ◌&&◌, ◌==◌, is_some, if◌then◌else◌, slice_get}
-use Rattle.std.specs.List.{Contains, filter, list_all, list_any}
+use Rattle.std.specs.List.{Contains, list_all, list_any}
 use Rattle.std.specs.Str.{bytes_eq}
 use Rattle.std.proofs.lemmas.Bool.{and_parts, and_from, or_right, false≢true}
 use Rattle.std.proofs.lemmas.Bool.{eqb-true}
 use Rattle.std.proofs.lemmas.Slice.Eq.{bytes_eq-Decides}
 use Rattle.std.specs.Option.{option_and_then}
 use Rattle.spec_data.specs.Lists.{is_among, are_different, has_number, first_reason, look_up}
-use Rattle.spec_data.specs.Messages.{collision}
 use Rattle.spec_bitcoin.specs.Keys.{Pair}
 use Rattle.spec_terms.specs.Advert.{Advert}
 use Rattle.spec_terms.specs.Faults.{IsWellFormed}
@@ -25,7 +24,6 @@ use Rattle.spec_calculus.specs.Branches.{active_at, advert_of, contract_number, 
 use Rattle.spec_run.specs.Agreement.{active_in, active_by}
 use Rattle.spec_run.specs.declared.event.Event.{Event}
 use Rattle.spec_run.specs.declared.event.Event.TheVariants as events
-use Rattle.spec_run.specs.declared.header.HeldSecret.{HeldSecret}
 use Rattle.spec_run.specs.declared.outcome.Outcome.TheVariants as outcomes
 use Rattle.spec_run.specs.declared.outcome.Reason.{Reason}
 use Rattle.spec_run.specs.declared.outcome.Reason.TheVariants as reason
@@ -41,21 +39,18 @@ use Rattle.spec_run.specs.Owners.{suits}
 use Rattle.spec_run.specs.Committing.{secrets_at, names_fit, missing_secret, bad_secret, repeated_digest, commit_row, digest_row, with_promise}
 use Rattle.spec_run.specs.Committing.{committed_strings, committed_pending}
 use Rattle.spec_run.specs.Event.{pending}
-use Rattle.spec_run.specs.Pending.{Pending, apply, done, guess, posting, unless}
+use Rattle.spec_run.specs.Pending.{Pending, done, posting, unless}
 use Rattle.spec_run.specs.Revealing.{own_secret, reveal_row}
 use Rattle.spec_run.specs.Secrets.{digest_at}
 use Rattle.spec_run.specs.Signing.{with_pairs, needs_at, pairs_of_party, endorsing_pairs, endorse_row, initial_pairs, missing_need, missed_need}
 use Rattle.spec_run.specs.Signing.{not_endorsed, init_row}
 use Rattle.spec_run.specs.Translation.{last_configuration, last_world, first_halt}
 use Rattle.spec_run.specs.Statements.{IsRun, spends_with_leave}
-use Rattle.spec_next.specs.declared.outlook.Ruling.{Ruling}
-use Rattle.spec_next.specs.declared.outlook.Ruling.TheVariants as rulings
-use Rattle.spec_next.specs.declared.requirement.Requirement.{Requirement}
 use Rattle.spec_next.specs.declared.requirement.Requirement.TheVariants as requirements
 use Rattle.spec_next.specs.Bindings.{bindings_for}
 use Rattle.spec_next.specs.Candidates.{are_signed, has_endorsed}
 use Rattle.spec_next.specs.Hands.{is_in_hand}
-use Rattle.spec_next.specs.Prospects.{is_ahead, is_never, is_string_posted, decisive, lasting, outstanding, prospect, requirements_by, ruling, ruling_by, ruling_of}
+use Rattle.spec_next.specs.Prospects.{is_ahead, is_string_posted, lasting, ruling_by}
 use Rattle.spec_next.specs.Requirements.{Condition, agreed, begun, bound, digests_told, endorsed, endorsed_for, unmet}
 use Rattle.spec_next.specs.Requirements.{requirements_of}
 use Rattle.theory_calculus.specs.Members.{Is_in}
@@ -77,98 +72,15 @@ use Rattle.theory_next.specs.Others.{OthersComeTheorem}
 use Rattle.theory_next.specs.Ready.{CanUnlessHalts}
 use Rattle.theory_next.proofs.Advertising.{BoundWell, bound_well, rearranged_same, live_at, suits_at}
 use Rattle.theory_next.proofs.Exact.{all_met, from_map}
-use Rattle.theory_next.proofs.Exact.{none_unmet as none_unmet_of}
+use Rattle.theory_next.proofs.Exact.{none_unmet as all_met_none}
 use Rattle.theory_next.proofs.FirstNeeds.{needed_take_part}
 use Rattle.theory_next.proofs.FirstRun.{from_among}
 use Rattle.theory_next.proofs.Lacking.{lacks_of, secret_takes_part, unposted}
 use Rattle.theory_next.proofs.LiveBegun.{live_has_begun}
 use Rattle.theory_next.proofs.MetAlone as alone
 use Rattle.theory_next.proofs.Ready.{met_parts}
+use Rattle.theory_next.proofs.NothingSaid.{Refused, unless_refused, Plain, none_in_hand, same_reason}
 use Rattle.theory_next.proofs.Waits.{comes_unless}
-
--- ---- what isn't said to be missing
-
-abbrev cannot : Reason → Ruling
-cannot reason = rulings.Cannot reason
-
--- a list with something that never comes has such after the rest is left out
-never_left : (xs : List Requirement) → list_any is_never xs ≡ true → filter is_never xs ≡ [] → ⊥
-never_left [] h k = false≢true h
-never_left (x ∷ xs) h k = by_first (is_never x) h k (never_left xs)
-  where
-    by_first : (b : Bool) → (b || list_any is_never xs) ≡ true → (if b then x ∷ filter is_never xs else filter is_never xs) ≡ []
-        → (list_any is_never xs ≡ true → filter is_never xs ≡ [] → ⊥) → ⊥
-    by_first true e f later = cc
-    by_first false e f later = later e f
-
-decisive_none : (xs : List Requirement) → decisive xs ≡ [] → xs ≡ []
-decisive_none xs h = by_any (list_any is_never xs) refl h
-  where
-    by_any : (b : Bool) → list_any is_never xs ≡ b → (if b then filter is_never xs else xs) ≡ [] → xs ≡ []
-    by_any true e k = absurd (never_left xs e k)
-    by_any false e k = k
-
-none_both : (xs ys : List Requirement) → xs ++ ys ≡ [] → (xs ≡ []) × (ys ≡ [])
-none_both [] ys h = (refl, h)
-none_both (x ∷ xs) ys h = cc
-
-module _ (s : Setup) (g : Configuration) (w : World) where
-  -- it is refused, for a reason that may pass, and nothing fails of its conditions but what is in hand
-  record Refused (e : Event) : Type 0 where
-    reason : Reason
-    is : ruling s w e ≡ cannot reason
-    passes : lasting reason ≡ []
-    nothing : outstanding s g w e ≡ []
-
-  refused_or : (e : Event) → (prospect s g w e).requirements ≡ [] → CanUnlessHalts s w e ⊎ Refused e
-  refused_or e h = by_ruling (ruling s w e) refl h
-    where
-      by_ruling : (r : Ruling) → ruling s w e ≡ r → requirements_by (outstanding s g w e) r ≡ [] → CanUnlessHalts s w e ⊎ Refused e
-      by_ruling rulings.Can q k = inl (inl q)
-      by_ruling rulings.Halts q k = inl (inr q)
-      by_ruling (rulings.Cannot reason) q k =
-          let both = none_both (lasting reason) (outstanding s g w e) (decisive_none (lasting reason ++ outstanding s g w e) k) in
-          inr (record { reason = reason; is = q; passes = both.0; nothing = both.1 })
-
-  -- so where it comes if no condition fails, it comes
-  unless_refused : (e : Event) → (prospect s g w e).requirements ≡ [] → (Refused e → CanUnlessHalts s w e) → CanUnlessHalts s w e
-  unless_refused e h f = by_or (refused_or e h)
-    where
-      by_or : CanUnlessHalts s w e ⊎ Refused e → CanUnlessHalts s w e
-      by_or (inl c) = c
-      by_or (inr r) = f r
-
-  -- nothing of these is in hand
-  Plain : List Condition → Type 0
-  Plain cs = (c : Condition) → Is_in c cs → is_in_hand s w (c.1) ≡ false
-
-  none_in_hand : (cs : List Condition) → Plain cs → filter (λ x. not (is_in_hand s w x)) (unmet cs) ≡ [] → unmet cs ≡ []
-  unfolding Plain
-  none_in_hand [] p h = refl
-  none_in_hand (c ∷ cs) p h = by_test (c.0) h (none_in_hand cs (λ d i. p d (inr i)))
-    where
-      by_test : (b : Bool)
-          → filter (λ x. not (is_in_hand s w x)) (map (λ (d : Condition). d.1) (if not b then c ∷ filter (λ (d : Condition). not (d.0)) cs else filter (λ (d : Condition). not (d.0)) cs)) ≡ []
-          → (filter (λ x. not (is_in_hand s w x)) (unmet cs) ≡ [] → unmet cs ≡ [])
-          → map (λ (d : Condition). d.1) (if not b then c ∷ filter (λ (d : Condition). not (d.0)) cs else filter (λ (d : Condition). not (d.0)) cs) ≡ []
-      by_test true k later = later k
-      by_test false k later = absurd (stays (is_in_hand s w (c.1)) (p c (inl refl)) k)
-        where
-          stays : (b : Bool) → b ≡ false
-              → (if not b then c.1 ∷ filter (λ x. not (is_in_hand s w x)) (unmet cs) else filter (λ x. not (is_in_hand s w x)) (unmet cs)) ≡ [] → ⊥
-          stays true q f = false≢true (sym q)
-          stays false q f = cc
-
-  -- a refusal is by the outcome, where nothing halts
-  same_reason : (e : Event) (r reason : Reason) → (pending s w e).outcome ≡ outcomes.Refused reason → ruling s w e ≡ cannot r → reason ≡ r
-  same_reason e r reason o q =
-      let d = pending s w e in
-      by_halt (collision s.hash w.hashed d.hashes) (guess s w.posted d.posts d.allowed) q
-    where
-      by_halt : (c : Option (List ℕ × List ℕ)) (u : Option HeldSecret) → ruling_of (apply w (pending s w e) c u) ≡ cannot r → reason ≡ r
-      by_halt (Some pair) u k = cc
-      by_halt None (Some held) k = cc
-      by_halt None None k = let z : cannot reason ≡ cannot r = sym (ap ruling_by o) ∙ k in cc
 
 -- ---- names
 
@@ -391,8 +303,8 @@ module _ (s : Setup) (es : List Event) (run : IsRun s es) where
             let cs = (calculus.is_advertised g.advertised k, requirements.Advert k) ∷ digests_told s k party [] in
             all_met cs (none_in_hand s g w cs (told_plain party) r.nothing)
 
-        abbrev_last : Pending
-        abbrev_last = committed_pending s (with_promise s w k party []) k party (committed_strings s k party)
+        last_pending : Pending
+        last_pending = committed_pending s (with_promise s w k party []) k party (committed_strings s k party)
 
         row_is : (m b : Option (List ℕ)) → missing_secret s k party ≡ m → bad_secret s k party ≡ b
             → first_reason (commit_row s w k party [])
@@ -411,9 +323,9 @@ module _ (s : Setup) (es : List Event) (run : IsRun s es) where
 
         outcome_is : (x : Option Reason) → first_reason (commit_row s w k party []) ≡ x
             → (pending s w (events.Commit k party [])).outcome
-            ≡ (unless x w [] (unless (first_reason (digest_row s w k party [])) w (committed_strings s k party) abbrev_last)).outcome
+            ≡ (unless x w [] (unless (first_reason (digest_row s w k party [])) w (committed_strings s k party) last_pending)).outcome
         outcome_is x e =
-            ap (λ y. (unless y w [] (unless (first_reason (digest_row s w k party [])) w (committed_strings s k party) abbrev_last)).outcome) e
+            ap (λ y. (unless y w [] (unless (first_reason (digest_row s w k party [])) w (committed_strings s k party) last_pending)).outcome) e
 
         -- a reason that stays is none that passes
         no : (x : Reason) → (lasting x ≡ [] → ⊥) → (pending s w (events.Commit k party [])).outcome ≡ outcomes.Refused x → CanUnlessHalts s w (events.Commit k party [])
@@ -428,12 +340,12 @@ module _ (s : Setup) (es : List Event) (run : IsRun s es) where
             no (reason.HashRepeated x) (λ q. cc)
             (outcome_is None (row_is None None e f)
             ∙ ap (λ (o : Option (List ℕ)). (unless (first_reason ((is_some o, reason.HashRepeated (bytes_or_none o)) ∷ [])) w
-            (committed_strings s k party) abbrev_last).outcome) h)
+            (committed_strings s k party) last_pending).outcome) h)
         by_secrets None None None e f h =
             comes_unless s w (events.Commit k party [])
             (ap ruling_by (outcome_is None (row_is None None e f)
             ∙ ap (λ (o : Option (List ℕ)). (unless (first_reason ((is_some o, reason.HashRepeated (bytes_or_none o)) ∷ [])) w
-            (committed_strings s k party) abbrev_last).outcome) h))
+            (committed_strings s k party) last_pending).outcome) h))
 
     -- ---- signatures of the initial transaction
 
@@ -697,7 +609,7 @@ module _ (s : Setup) (es : List Event) (run : IsRun s es) (on : first_halt s es 
           (ahead (held_secret s party secret) refl
           (λ bytes e. unposted s now.hashed now.posted (held_secret s party secret) (digest_at now.promises x) (kept.own x honest)
           (kept.full x promised named) (sym (kept.revealed x) ∙ hidden) bytes e))
-          (none_unmet_of (begun here now k party)
+          (all_met_none (begun here now k party)
           (and_from (calculus.is_advertised here.advertised k) _ told
           (and_from (has_committed here.committed k party) _ committed (and_from (has_number k now.begun) true began refl))))
         where

@@ -57,8 +57,9 @@ pub fn ready_comes()
     ensures { ReadyComesTheorem }
 {}
 
-/// After a run that doesn't halt, an endorsement or a reveal for which nothing is missing, and each authorisation that is asked, can come,
-/// unless it halts the run.
+/// After a run that doesn't halt, an advertisement, a commitment, an endorsement, a signature of an initial transaction or a
+/// reveal for which nothing is said to be missing, each authorisation that is asked, and the reveal of each secret of an
+/// honest party that a branch lacks, can come, unless it halts the run.
 pub fn others_come()
     ensures { OthersComeTheorem }
 {}

@@ -1,5 +1,6 @@
 pub mod Complete
 pub mod Exact
+pub mod Ahead
 pub mod Never
 pub mod Lasting
 pub mod Said

@@ -1,6 +1,6 @@
 -- Where something never comes.
-use Rattle.std.proofs.Common.{◌≡◌, ℕ, List, [], ◌∷◌, ◌++◌, map, Bool, true, false, refl, sym, ap, ◌∙◌, subst, inl, inr, ◌⊎◌}
-use Rattle.std.specs.Prelude.{flat_map, ◌==◌, not, ◌&&◌, ◌||◌, if◌then◌else◌}
+use Rattle.std.proofs.Common.{◌≡◌, ℕ, arith, List, [], ◌∷◌, ◌++◌, map, Bool, true, false, refl, sym, ap, ◌∙◌, subst, inl, inr, ◌⊎◌}
+use Rattle.std.specs.Prelude.{codes, slice_index, flat_map, ◌==◌, not, ◌&&◌, ◌||◌, if◌then◌else◌}
 use Rattle.std.specs.List.{filter, list_all, list_any}
 use Rattle.std.proofs.lemmas.Bool.{and_parts, and_from, or_cases, or_left, or_right}
 use Rattle.spec_data.specs.Lists.{has_number}
@@ -20,9 +20,11 @@ use Rattle.spec_terms.specs.Precondition.{persistent, secrets}
 use Rattle.spec_run.specs.declared.event.Event.TheVariants as events
 use Rattle.spec_next.specs.Candidates.{people, advertising, committing, endorsing, starting, revealing, taking_active, actives_of, candidates}
 use Rattle.spec_next.specs.Prospects.{ruling, lasting, is_never, decisive, requirements_by, is_refused, is_lost, goes_on, living, prospect, outlook}
+use Rattle.spec_next.specs.OutlookText.{ruling_line}
 use Rattle.spec_next.specs.Prospects.{is_shown, is_over, useful, outstanding, prospects_of}
 use Rattle.theory_calculus.specs.Members.{Is_in}
 use Rattle.theory_calculus.proofs.Members.{in_append, in_filter, filter_has, in_from_contains, contains_from_in, all_in}
+use Rattle.theory_next.proofs.Ahead.{ahead_exactly}
 use Rattle.theory_next.proofs.Exact.{from_map}
 use Rattle.theory_next.specs.Never.{all_lacking, SaysWhatLacks, all_ahead, NeverBegins, ShowsWhatComes, NeverIsSaid}
 
@@ -98,8 +100,15 @@ says_what_lacks s g w e = record {
         λ h. contains_from_in (prospect s g w e).requirements x
             (subst (λ (xs : List Requirement). Is_in x xs) (sym same) (filter_has is_never ws x (in_from_contains ws x h.0) h.1)),
       );
+  can = λ q. ap (ruling_line e) q;
+  printed = λ rest q. by_line (ruling s w e) rest q;
 }
   where
+    by_line : (r : Ruling) (rest : List ℕ) → ruling_line e r ≡ codes "can " ++ rest → r ≡ rulings.Can
+    by_line rulings.Can rest q = refl
+    by_line (rulings.Cannot reason) rest q = let z : 110 ≡ 32 = ap (λ (xs : List ℕ). slice_index xs 3) q in absurd (omega (arith, z))
+    by_line rulings.Halts rest q = let z : 110 ≡ 32 = ap (λ (xs : List ℕ). slice_index xs 3) q in absurd (omega (arith, z))
+
     none : (r : Ruling) → is_refused r ≡ false → requirements_by (outstanding s g w e) r ≡ []
     none rulings.Can h = refl
     none (rulings.Cannot reason) h = cc
@@ -222,6 +231,7 @@ shows_what_comes s g w k advert = record {
       );
   over = λ h p i. begins_alone s g w k advert h p (in_living ps p (in_from_contains (outlook s g w k advert).prospects p i));
   going = λ h. ap (λ b. useful b listed) h;
+  ahead = ahead_exactly s g w (candidates s g w k advert);
 }
   where
     listed : List Prospect

@@ -50,12 +50,54 @@ use Rattle.theory_run.specs.Tracks.{Tracks}
 use Rattle.theory_run.proofs.Following.{run_posts, kept_at_end}
 use Rattle.theory_offers.proofs.WholeRun.{KeptAll, opening_all, keeps_all}
 use Rattle.theory_next.specs.Ready.{CanUnlessHalts}
-use Rattle.theory_next.specs.Waits.{IsGivenBy, GivenByEvent, Commits, GivenByHand, CanGive, WaitsForThose, WaitsAreMeant}
+use Rattle.theory_next.specs.Waits.{IsIts, IsGivenBy, GivenByEvent, Commits, GivenByHand, CanGive, WaitsForThose, WaitsAreMeant}
 use Rattle.theory_next.proofs.Apart.{among_in}
 use Rattle.theory_next.proofs.Complete.{from_flat_map}
 use Rattle.theory_next.proofs.Exact.{from_map, is_failing}
 use Rattle.theory_next.proofs.Never.{any_in, any_from, in_living, in_useful, lacks_condition}
 use Rattle.theory_next.proofs.Said.{can_is_meant}
+
+-- ---- whose it is to give
+
+is_its : (x : Requirement) (who : List ℕ) → awaited x ≡ Some who → IsIts x who
+is_its (requirements.Advert k) who h = cc
+is_its (requirements.Deposit y) who h = cc
+is_its (requirements.Gone y) who h = cc
+is_its requirements.NobodyHonest who h = cc
+is_its (requirements.Missing secret) who h = cc
+is_its (requirements.BadLength secret) who h = cc
+is_its (requirements.Repeated secret) who h = cc
+is_its (requirements.Digest party k secret) who h = cc
+is_its (requirements.Commitment party k) who h = cc
+is_its (requirements.Endorsement party k) who h = cc
+is_its (requirements.Start party k) who h = cc
+is_its (requirements.Beginning k) who h = cc
+is_its (requirements.Height t m) who h = cc
+is_its (requirements.Authorisation party n i) who h = cc
+is_its (requirements.Put y) who h = cc
+is_its (requirements.Secret party k secret) who h = cc
+is_its (requirements.Posted party secret) who h = cc
+is_its requirements.Predicate who h = cc
+
+is_awaited_of : (x : Requirement) (who : List ℕ) → IsIts x who → awaited x ≡ Some who
+is_awaited_of (requirements.Advert k) who h = absurd h
+is_awaited_of (requirements.Deposit y) who h = absurd h
+is_awaited_of (requirements.Gone y) who h = absurd h
+is_awaited_of requirements.NobodyHonest who h = absurd h
+is_awaited_of (requirements.Missing secret) who h = absurd h
+is_awaited_of (requirements.BadLength secret) who h = absurd h
+is_awaited_of (requirements.Repeated secret) who h = absurd h
+is_awaited_of (requirements.Digest party k secret) who h = ap Some h
+is_awaited_of (requirements.Commitment party k) who h = ap Some h
+is_awaited_of (requirements.Endorsement party k) who h = ap Some h
+is_awaited_of (requirements.Start party k) who h = ap Some h
+is_awaited_of (requirements.Beginning k) who h = absurd h
+is_awaited_of (requirements.Height t m) who h = absurd h
+is_awaited_of (requirements.Authorisation party n i) who h = ap Some h
+is_awaited_of (requirements.Put y) who h = absurd h
+is_awaited_of (requirements.Secret party k secret) who h = ap Some h
+is_awaited_of (requirements.Posted party secret) who h = ap Some h
+is_awaited_of requirements.Predicate who h = absurd h
 
 -- ---- digests are missing for commitments alone
 
@@ -492,7 +534,7 @@ module _ (s : Setup) (es : List Event) (run : IsRun s es) (k : ℕ) (c : Advert)
               shown = contains_from_in listed p.one p.there;
               requirement = x.one;
               outstanding = contains_from_in p.one.requirements x.one x.there;
-              its = its (awaited x.one) party t.0;
+              its = is_its x.one party (its (awaited x.one) party t.0);
               given = elim (or_cases (is_open g x.one) (is_given listed x.one) t.1) [
                 | inl e ↦ inr (by_hand p.one x.one p.there x.there e)
                 | inr e ↦ inl (by_event x.one e)
@@ -504,7 +546,7 @@ module _ (s : Setup) (es : List Event) (run : IsRun s es) (k : ℕ) (c : Advert)
           → Contains (outlook s g w k c).waits party
       back party i h =
           let at_hand : is_at_hand g listed h.requirement ≡ true = by_given h.requirement h.given in
-          let mine : is_for h.requirement party ≡ true = ap (λ o. is_for_whom o party) h.its ∙ bytes_refl party in
+          let mine : is_for h.requirement party ≡ true = ap (λ o. is_for_whom o party) (is_awaited_of h.requirement party h.its) ∙ bytes_refl party in
           contains_from_in (outlook s g w k c).waits party
           (filter_has (λ p. is_waited_for g listed p) (participants c) party (in_from_contains (participants c) party i)
           (any_in (λ (q : Prospect). list_any (λ x. is_for x party && is_at_hand g listed x) q.requirements) listed h.lacking

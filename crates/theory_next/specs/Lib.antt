@@ -6,6 +6,7 @@ pub mod Once
 pub mod FirstLines
 pub mod FirstRun
 pub mod FirstEvents
+pub mod Ahead
 pub mod Never
 pub mod Lasting
 pub mod Waits

@@ -1,6 +1,6 @@
 -- What is claimed of what never comes: an event that lacks such says that alone, and where it is before the beginning, its contract shows
 -- no other event before the beginning.
-use Rattle.std.specs.Prelude.{◌≡◌, ◌↔◌, ◌⊎◌, ℕ, List, [], ◌++◌, true, false}
+use Rattle.std.specs.Prelude.{◌≡◌, ◌↔◌, ◌⊎◌, ℕ, List, [], ◌++◌, true, false, codes}
 use Rattle.std.specs.List.{Contains}
 use Rattle.spec_terms.specs.Advert.{Advert}
 use Rattle.spec_calculus.specs.Configuration.{Configuration}
@@ -8,12 +8,15 @@ use Rattle.spec_run.specs.declared.event.Event.{Event}
 use Rattle.spec_run.specs.declared.outcome.Reason.{Reason}
 use Rattle.spec_run.specs.Setup.{Setup}
 use Rattle.spec_run.specs.World.{World}
+use Rattle.spec_text.specs.RunText.{newline, event_text}
 use Rattle.spec_next.specs.declared.requirement.Requirement.{Requirement}
 use Rattle.spec_next.specs.declared.outlook.Ruling.TheVariants as rulings
 use Rattle.spec_next.specs.declared.outlook.Prospect.{Prospect}
 use Rattle.spec_run.specs.declared.event.Event.TheVariants as events
 use Rattle.spec_next.specs.Candidates.{candidates}
+use Rattle.spec_next.specs.OutlookText.{prospect_line}
 use Rattle.spec_next.specs.Prospects.{ruling, lasting, is_never, is_refused, is_lost, goes_on, is_over, useful, outstanding, prospect, prospects_of, outlook}
+use Rattle.theory_next.specs.Ahead.{IsAhead}
 
 -- ---- what is said of an event
 
@@ -31,6 +34,9 @@ pub record SaysWhatLacks (s : Setup) (g : Configuration) (w : World) (e : Event)
   -- where some never comes, exactly what never comes
   pub never : (reason : Reason) → ruling s w e ≡ rulings.Cannot reason → (y : Requirement) → Contains (all_lacking s g w e reason) y → is_never y ≡ true
       → (x : Requirement) → Contains (prospect s g w e).requirements x ↔ (Contains (all_lacking s g w e reason) x × (is_never x ≡ true))
+  -- and its line begins with `can ` exactly where it can come
+  pub can : ruling s w e ≡ rulings.Can → prospect_line (prospect s g w e) ≡ codes "can " ++ (event_text e ++ newline)
+  pub printed : (rest : List ℕ) → prospect_line (prospect s g w e) ≡ codes "can " ++ rest → ruling s w e ≡ rulings.Can
 
 -- ---- what is shown of a contract
 
@@ -56,6 +62,8 @@ pub record ShowsWhatComes (s : Setup) (g : Configuration) (w : World) (k : ℕ) 
       → (p.event ≡ events.FireInit k) × (is_refused p.ruling ≡ false)
   -- and of one that isn't, all that is ahead
   pub going : is_over g w k ≡ false → all_ahead s g w k advert ≡ prospects_of s g w (candidates s g w k advert)
+  -- what is ahead is each candidate that isn't both refused and behind the contract
+  pub ahead : (p : Prospect) → Contains (prospects_of s g w (candidates s g w k advert)) p ↔ IsAhead s g w (candidates s g w k advert) p
 
 -- of every event and contract in any world
 pub record NeverIsSaid : Type 0 where

@@ -16,7 +16,7 @@ use Rattle.spec_next.specs.declared.requirement.Requirement.{Requirement}
 use Rattle.spec_next.specs.declared.requirement.Requirement.TheVariants as requirements
 use Rattle.spec_next.specs.declared.outlook.Prospect.{Prospect}
 use Rattle.spec_next.specs.declared.outlook.Outlook.{Outlook}
-use Rattle.spec_next.specs.Prospects.{awaited, prospect, outlook}
+use Rattle.spec_next.specs.Prospects.{prospect, outlook}
 use Rattle.theory_next.specs.Candidates.{GoesThrough}
 use Rattle.theory_next.specs.Ready.{CanUnlessHalts}
 
@@ -51,13 +51,24 @@ GivenByHand s w (requirements.Digest party k secret) = Commits s w k party
 GivenByHand s w (requirements.Posted party secret) = (bytes : List ℕ) → CanUnlessHalts s w (events.Post bytes)
 GivenByHand s w _ = ⊥
 
+-- it is for this party to give: by its own event, or its own digest or string
+abbrev pub IsIts : Requirement → List ℕ → Type 0
+IsIts (requirements.Digest party k secret) who = party ≡ who
+IsIts (requirements.Commitment party k) who = party ≡ who
+IsIts (requirements.Endorsement party k) who = party ≡ who
+IsIts (requirements.Start party k) who = party ≡ who
+IsIts (requirements.Authorisation party n i) who = party ≡ who
+IsIts (requirements.Secret party k secret) who = party ≡ who
+IsIts (requirements.Posted party secret) who = party ≡ who
+IsIts _ who = ⊥
+
 -- the party can give what is missing for one of these events
 pub record CanGive (s : Setup) (g : Configuration) (w : World) (o : Outlook) (party : List ℕ) : Type 0 where
   pub lacking : Prospect
   pub shown : Contains o.prospects lacking
   pub requirement : Requirement
   pub outstanding : Contains lacking.requirements requirement
-  pub its : awaited requirement ≡ Some party
+  pub its : IsIts requirement party
   pub given : GivenByEvent s g w o requirement ⊎ GivenByHand s w requirement
 
 -- ---- the claim

@@ -1,0 +1,14 @@
+pub mod Words
+pub mod PlanRead
+pub mod SignatureRead
+pub mod PlanTexts
+pub mod AskedSlots
+pub mod SignatureTexts
+pub mod PsbtBytes
+pub mod Short
+pub mod PsbtTexts
+pub mod Signing
+pub mod Printable
+pub mod Fine
+pub mod KeysRead
+pub mod Answers

@@ -46,7 +46,7 @@ use Rattle.theory_deal_text.specs.PlanLines.{plan_said, plan_of}
 use Rattle.theory_deal_text.specs.Psbts.{psbts_of, shown_psbt, is_named, named}
 use Rattle.theory_deal_text.specs.SignatureLines.{missing_said, missing_of, held_said, held_of}
 use Rattle.theory_deal_text.specs.Signatures.{shown_missing, shown_held}
-use Rattle.theory_deal_text.specs.Statements.{transactions_of, AreGiven, DealTextsAreRead}
+use Rattle.theory_deal_text.specs.Statements.{transactions_of, DealTextsAreRead}
 use Rattle.theory_deal_text.proofs.Fine.{all_askable, IsLaid, plan_fine, missing_fine, held_fine}
 use Rattle.theory_deal_text.proofs.KeysRead.{keys_back}
 use Rattle.theory_deal_text.proofs.PlanRead as plan_lines

@@ -1,5 +1,5 @@
 -- What the transactions of a deal ask for is what its contract needs, in the same order.
-use Rattle.std.proofs.Common.{◌≡◌, ℕ, ◌+◌, List, [], ◌∷◌, ◌++◌, map, Bool, true, false, Option, Some, None, refl, sym, ap, ◌∙◌, cond}
+use Rattle.std.proofs.Common.{◌≡◌, ℕ, ◌+◌, List, [], ◌∷◌, ◌++◌, map, Bool, true, false, Some, refl, sym, ap, ◌∙◌, cond}
 use Rattle.std.specs.Prelude.{flat_map, filter, ◌||◌}
 use Rattle.std.specs.List.{find, list_any}
 use Rattle.std.specs.Option.{option_map}
@@ -11,7 +11,6 @@ use Rattle.spec_compiler.specs.Keyed.Transactions.{tx_of}
 use Rattle.spec_compiler.specs.declared.unsigned.Spent.{Spent}
 use Rattle.spec_terms.specs.Advert.{Advert}
 use Rattle.spec_tool.specs.Keyed.Listed.{Listed, listed}
-use Rattle.spec_deal.specs.declared.transaction.Transaction.{Transaction}
 use Rattle.spec_deal.specs.Slots.{Slot, input_slot, input_slots, slots_from, listed_slots, slots, slot_bytes, slot_key, slot_digest}
 use Rattle.spec_deal.specs.Transactions.{no_digest, signer, input, inputs, transaction, transactions}
 use Rattle.spec_deal.specs.Wallets.{input_wallet, has_digest}

@@ -1,6 +1,6 @@
 -- All lines that are shown of a deal that is taken can be said.
-use Rattle.std.proofs.Common.{◌≡◌, ℕ, ◌+◌, ◌≤◌, ◌^◌, List, [], ◌∷◌, ◌++◌, length, map, Bool, true, false, not, Option, Some, None}
-use Rattle.std.proofs.Common.{refl, subst, arith, cond}
+use Rattle.std.proofs.Common.{ℕ, ◌+◌, ◌≤◌, ◌^◌, List, [], ◌∷◌, ◌++◌, length, map, Bool, true, false, not, Option, Some, None}
+use Rattle.std.proofs.Common.{arith, cond}
 use Rattle.std.specs.Prelude.{flat_map, filter}
 use Rattle.std.specs.List.{find, list_all, list_any, AllByRecursion}
 use Rattle.std.proofs.lemmas.Bool.{and_parts}
@@ -12,12 +12,10 @@ use Rattle.spec_terms.specs.Readable.{is_name}
 use Rattle.spec_terms.specs.declared.path.PathStep.{PathStep}
 use Rattle.spec_bitcoin.specs.declared.label.Label.{Label}
 use Rattle.spec_bitcoin.specs.declared.label.Label.TheVariants as labels
-use Rattle.spec_bitcoin.specs.Keys.{IsStep}
 use Rattle.spec_compiler.specs.declared.unsigned.Spent.{Spent}
 use Rattle.spec_compiler.specs.Keyed.Keys.{Keys}
 use Rattle.spec_compiler.specs.Keyed.Instance.{Instance}
 use Rattle.spec_compiler.specs.Keyed.Compilation.{scripts}
-use Rattle.spec_tool.specs.declared.which.Which.{Which}
 use Rattle.spec_tool.specs.Keyed.Listed.{Listed, listed}
 use Rattle.spec_deal.specs.declared.signed.Signed.{Signed}
 use Rattle.spec_deal.specs.declared.transaction.Input.{Input}
@@ -33,17 +31,16 @@ use Rattle.theory_play_text.specs.Printable.{IsWide, IsNamed}
 use Rattle.theory_play_text.proofs.LegalSteps.{by_append}
 use Rattle.theory_play_text.proofs.Named.{AllNamed, has_names}
 use Rattle.theory_plan_text.specs.Audit.{IsShownLabel}
-use Rattle.theory_plan_text.specs.PlanLines.{IsWhich}
 use Rattle.theory_plan_text.proofs.SmallPaths.{IsSmall, positions_are_small, by_paths}
 use Rattle.theory_deal_text.specs.Asked.{Asked, input_asks, inputs_ask, asked, shown_signer, shown_slot, handed_in, is_there, is_needed_first, is_unchecked}
 use Rattle.theory_deal_text.specs.Plan.{shown_deposit, shown_payee, shown_payees, shown_digest, shown_signing, shown_inputs, shown_transaction, shown_plan}
 use Rattle.theory_deal_text.specs.PlanLines as line
 use Rattle.theory_deal_text.specs.PlanLines.{PlanLine}
-use Rattle.theory_deal_text.specs.Signatures.{shown_lack, shown_gate, gate_of, shown_missing, shown_witness, shown_handed, if_handed, shown_held}
-use Rattle.theory_deal_text.specs.SignatureLines.{MissingLine, HeldLine, lacks, unverified}
-use Rattle.theory_deal_text.specs.Signers.{ShownSlot, IsSigner, IsSlot}
+use Rattle.theory_deal_text.specs.Signatures.{shown_lack, shown_gate, gate_of, shown_witness, shown_handed, if_handed}
+use Rattle.theory_deal_text.specs.SignatureLines.{lacks, unverified}
+use Rattle.theory_deal_text.specs.Signers.{IsSigner, IsSlot}
 use Rattle.theory_deal_text.proofs.PlanRead.{IsSaid}
-use Rattle.theory_deal_text.proofs.Printable.{IsPrintable, IsPlaced, IfHrp, shown_address}
+use Rattle.theory_deal_text.proofs.Printable.{IsPrintable, IfHrp, shown_address}
 use Rattle.theory_deal_text.proofs.PsbtTexts.{is_unsigned_tx}
 use Rattle.theory_deal_text.proofs.SignatureRead.{IsMissing, IsHeld}
 use Rattle.theory_deal_text.proofs.Signing.{AreShown, IfNamed}
@@ -99,10 +96,10 @@ pub record IsAskable (a : Asked) : Type 0 where
 module _ (hash : List ℕ → List ℕ) (keys : Keys) (advert : Advert) (l : Listed) (h : IsPrintable keys advert l) where
   slot_fine : (k : ℕ) (label : Label) → IsWide k → IsShownLabel label
       → IsSlot (record {
-      which = l.which;
-      input = k;
-      signer = shown_signer (input_wallet keys advert l.which k) label;
-      verb = (signer hash keys advert l.which (input_wallet keys advert l.which k) label).verb;
+        which = l.which;
+        input = k;
+        signer = shown_signer (input_wallet keys advert l.which k) label;
+        verb = (signer hash keys advert l.which (input_wallet keys advert l.which k) label).verb;
       })
   slot_fine k label w s =
       record { which = h.signed.which; input = w; signer = signer_fine (input_wallet keys advert l.which k) label (h.signed.wallets k) s }

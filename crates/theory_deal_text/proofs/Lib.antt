@@ -1,14 +1,18 @@
-pub mod Words
-pub mod PlanRead
-pub mod SignatureRead
-pub mod PlanTexts
-pub mod AskedSlots
-pub mod SignatureTexts
-pub mod PsbtBytes
-pub mod Short
-pub mod PsbtTexts
-pub mod Signing
-pub mod Printable
-pub mod Fine
-pub mod KeysRead
-pub mod Answers
+mod Answers
+mod Ascending
+mod AskedSlots
+mod FilledApart
+mod FilledDeal
+mod FilledText
+mod Fine
+mod KeysRead
+mod PlanRead
+mod PlanTexts
+mod Printable
+mod PsbtBytes
+mod PsbtTexts
+mod Short
+mod SignatureRead
+mod SignatureTexts
+mod Signing
+mod Words

@@ -1,15 +1,14 @@
 -- Each line of a deal's plan is read as what it says.
-use Rattle.std.proofs.Common.{◌≡◌, ℕ, ◌<◌, ◌^◌, List, [], ◌∷◌, Option, Some, None, refl, ap, ◌∙◌, true}
+use Rattle.std.proofs.Common.{◌≡◌, ℕ, List, [], ◌∷◌, Option, Some, None, refl, ap, ◌∙◌, true}
 use Rattle.std.specs.Prelude.{reverse, codes}
 use Rattle.std.specs.Fmt.{decimal}
 use Rattle.std.specs.List.{AllByRecursion}
 use Rattle.std.proofs.lemmas.List.{reverse-reverse}
 use Rattle.spec_data.specs.Digits.{hex_text}
-use Rattle.spec_bitcoin.specs.declared.tx.OutPoint.{OutPoint}
 use Rattle.spec_bitcoin.specs.declared.tx.Tx.{Tx}
 use Rattle.spec_bitcoin.specs.Keys.{IsStep, path_text}
 use Rattle.spec_bitcoin.specs.Spelling.{IsTransaction, stripped}
-use Rattle.spec_text.specs.Words.{◌>>=◌, a_name}
+use Rattle.spec_text.specs.Words.{◌>>=◌}
 use Rattle.spec_tool.specs.declared.which.Which.{Which}
 use Rattle.spec_tool.specs.Keyed.Listed.{which_text}
 use Rattle.spec_tool.specs.Psbt.{is_unsigned, unsigned_of}
@@ -24,7 +23,7 @@ use Rattle.theory_play_text.proofs.WordsBack.{number_back, number_plain, name_ba
 use Rattle.theory_plan_text.specs.PlanLines.{IsWhich}
 use Rattle.theory_plan_text.proofs.AnyLines.{Written}
 use Rattle.theory_plan_text.proofs.PlanRead.{which_back, which_plain}
-use Rattle.theory_deal_text.specs.Signers.{ShownSlot, slot_said, IsSlot}
+use Rattle.theory_deal_text.specs.Signers.{IsSlot}
 use Rattle.theory_deal_text.specs.PlanLines.{ShownScript, ShownDeposit, PlanLine, output_said, plan_said}
 use Rattle.theory_deal_text.specs.PlanLines as line
 use Rattle.theory_deal_text.proofs.Words.{slot_and, slot_back, slot_plain}

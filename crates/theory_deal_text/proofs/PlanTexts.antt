@@ -1,6 +1,6 @@
 -- The text of a deal's plan is that of the lines that it shows.
 use Rattle.std.proofs.Common.{◌≡◌, ℕ, ◌+◌, List, [], ◌∷◌, ◌++◌, length, map, Bool, true, false, Option, Some, None}
-use Rattle.std.proofs.Common.{refl, sym, ap, ◌∙◌, cond, arith, append_assoc}
+use Rattle.std.proofs.Common.{refl, sym, ap, ◌∙◌, cond, arith}
 use Rattle.std.specs.Prelude.{flat_map, reverse, codes}
 use Rattle.std.specs.Fmt.{decimal}
 use Rattle.std.specs.List.{AllByRecursion}
@@ -22,12 +22,8 @@ use Rattle.spec_compiler.specs.declared.unsigned.Spent.{Spent}
 use Rattle.spec_text.specs.PlanText.{script_line}
 use Rattle.spec_text.specs.RunText.{newline}
 use Rattle.spec_text.specs.Words.{◌>>=◌}
-use Rattle.spec_tool.specs.declared.which.Which.{Which}
 use Rattle.spec_tool.specs.Keyed.Listed.{Listed, listed, which_text}
 use Rattle.spec_address.specs.Address.{address}
-use Rattle.spec_deal.specs.declared.finish.Verb.{Verb}
-use Rattle.spec_deal.specs.declared.transaction.Input.{Input}
-use Rattle.spec_deal.specs.declared.transaction.Transaction.{Transaction}
 use Rattle.spec_deal.specs.declared.transaction.Wallet.{Wallet}
 use Rattle.spec_deal.specs.DealText as print
 use Rattle.spec_deal.specs.DealText.{address_words, script_words, spent_words, deposit_line, payee_line, is_plain, payee_lines, verb_text}

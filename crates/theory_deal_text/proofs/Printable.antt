@@ -1,6 +1,6 @@
 -- All that is printed of a deal that is taken can be: its transactions, deposits and payees have names and numbers as lines have them.
 use Rattle.std.proofs.Common.{◌≡◌, ℕ, ◌+◌, ◌≤◌, ◌<◌, ◌^◌, List, [], ◌∷◌, length, map, Bool, true, false, Option, Some, None, Ok}
-use Rattle.std.proofs.Common.{refl, sym, ap, ◌∙◌, subst, arith, cond, inl, inr, ◌++◌}
+use Rattle.std.proofs.Common.{refl, sym, ap, subst, arith, cond, inl, inr, ◌++◌}
 use Rattle.std.specs.Prelude.{◌&&◌, not, nat_le, sum_by, drop, slice_index}
 use Rattle.std.specs.List.{list_all, AllByRecursion}
 use Rattle.std.specs.Option.{option_map}
@@ -13,13 +13,13 @@ use Rattle.spec_data.specs.Lists.{is_among, look_up}
 use Rattle.spec_data.specs.Ranges.{max_money}
 use Rattle.spec_terms.specs.Advert.{Advert}
 use Rattle.spec_terms.specs.Faults.{IsWellFormed}
-use Rattle.spec_terms.specs.Precondition.{Holding, deposits, names_of}
+use Rattle.spec_terms.specs.Precondition.{Holding, deposits}
 use Rattle.spec_terms.specs.Readable.{is_name, is_readable_entry, is_readable_pre, is_readable_contract}
 use Rattle.spec_terms.specs.declared.path.PathStep.{PathStep}
 use Rattle.spec_terms.specs.declared.pre.Pre.{Pre}
 use Rattle.spec_terms.specs.declared.pre.Pre.TheVariants.{Persistent, Volatile, Secret}
 use Rattle.spec_bitcoin.specs.declared.tx.OutPoint.{OutPoint}
-use Rattle.spec_bitcoin.specs.Spelling.{IsPlace, IsTransaction}
+use Rattle.spec_bitcoin.specs.Spelling.{IsTransaction}
 use Rattle.spec_compiler.specs.declared.unsigned.Spent.{Spent}
 use Rattle.spec_compiler.specs.declared.unsigned.Unsigned.{Unsigned}
 use Rattle.spec_compiler.specs.Keyed.Keys.{Keys}
@@ -28,7 +28,7 @@ use Rattle.spec_compiler.specs.Keyed.Transactions.{input_of, tx_of, outpoint_or_
 use Rattle.spec_compiler.specs.Keyed.Compilation.{path_transactions}
 use Rattle.spec_compiler.specs.Keyed.ByPath.{unsigned_at}
 use Rattle.spec_text.specs.Words.{◌>>=◌}
-use Rattle.spec_run.specs.Firing.{with_witnesses, witnessed}
+use Rattle.spec_run.specs.Firing.{witnessed}
 use Rattle.spec_bitcoin.specs.declared.tx.TxIn.{TxIn}
 use Rattle.spec_tool.specs.declared.which.Which.{Which}
 use Rattle.spec_tool.specs.declared.which.Which.TheVariants as names

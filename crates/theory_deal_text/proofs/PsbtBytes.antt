@@ -1,16 +1,14 @@
 -- A line with a partially signed transaction is read as that very one.
-use Rattle.std.proofs.Common.{◌≡◌, ℕ, zero, suc, ◌+◌, ◌≤◌, ◌<◌, ◌^◌, List, [], ◌∷◌, ◌++◌, length, map, Bool, false, Option, Some, refl, sym, ap, ◌∙◌, subst}
-use Rattle.std.proofs.Common.{arith, lit<, append_assoc}
+use Rattle.std.proofs.Common.{◌≡◌, ℕ, zero, suc, ◌+◌, ◌<◌, ◌^◌, List, [], ◌∷◌, ◌++◌, length, map, Bool, false, refl, sym, ap, ◌∙◌, subst}
+use Rattle.std.proofs.Common.{lit<}
 use Rattle.std.specs.Prelude.{◌/◌, ◌%◌, ◌*◌, slice_index}
 use Rattle.std.specs.List.{flat_map, AllByRecursion}
 use Rattle.std.proofs.lemmas.List.Concat.{flat_map-cons}
-use Rattle.spec_data.specs.Digits.{onto}
 use Rattle.spec_data.specs.Hashes.{IsBytes}
 use Rattle.spec_data.proofs.ByteLemmas.{IsBytes-append}
 use Rattle.spec_bitcoin.specs.Spelling.{IsString, long_word, sized}
-use Rattle.spec_text.specs.Lines.{lines_of}
 use Rattle.spec_text.specs.Words.{◌>>=◌, all_of}
-use Rattle.spec_tool.specs.Base64.{symbols, symbol_of, base64_text, base64_bytes}
+use Rattle.spec_tool.specs.Base64.{symbols, symbol_of, base64_text}
 use Rattle.spec_tool.specs.Psbt.{Psbt, Pairing, pairing_bytes, map_bytes, magic, IsPairing, IsMap, Spells}
 use Rattle.spec_tool.specs.PsbtBytes.{psbt_of, psbt_bytes}
 use Rattle.spec_tool.specs.PsbtText.{psbt_line}

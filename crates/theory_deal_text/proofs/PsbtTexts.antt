@@ -1,6 +1,6 @@
 -- What signers are given of a deal's transaction can be written, and isn't long.
-use Rattle.std.proofs.Common.{◌≡◌, ℕ, suc, ◌+◌, ◌*◌, ◌≤◌, ◌<◌, ◌^◌, List, [], ◌∷◌, ◌++◌, length, map, replicate, Bool, true, false, not, eqb, Option, Some, None}
-use Rattle.std.proofs.Common.{refl, sym, ap, ◌∙◌, subst, arith, lit<, length-append}
+use Rattle.std.proofs.Common.{◌≡◌, ℕ, suc, ◌+◌, ◌*◌, ◌≤◌, ◌<◌, ◌^◌, List, [], ◌∷◌, ◌++◌, length, map, replicate, true, not, eqb, Option, Some, None}
+use Rattle.std.proofs.Common.{refl, ap, ◌∙◌, arith, lit<, length-append}
 use Rattle.std.specs.List.{flat_map, list_all, AllByRecursion}
 use Rattle.std.specs.Option.{option_map}
 use Rattle.std.proofs.lemmas.Bool.{eq-eqb, ne_eqb}
@@ -10,7 +10,7 @@ use Rattle.spec_data.specs.Hashes.{HashesBytes}
 use Rattle.spec_terms.specs.Advert.{Advert}
 use Rattle.spec_bitcoin.specs.declared.label.Label.{Label}
 use Rattle.spec_bitcoin.specs.declared.tx.TxOut.{TxOut}
-use Rattle.spec_bitcoin.specs.Spelling.{IsOutput, IsTransaction, long_word, compact, sized, output_bytes, stripped}
+use Rattle.spec_bitcoin.specs.Spelling.{IsTransaction, long_word, compact, sized, output_bytes, stripped}
 use Rattle.spec_compiler.specs.declared.unsigned.Spent.{Spent}
 use Rattle.spec_compiler.specs.Keyed.Keys.{Keys, own_script}
 use Rattle.spec_compiler.specs.Keyed.Statements.{IsPayable}
@@ -23,7 +23,7 @@ use Rattle.spec_tool.specs.PsbtBytes.{input_records, psbt_bytes}
 use Rattle.spec_deal.specs.declared.transaction.Wallet.{Wallet}
 use Rattle.spec_deal.specs.DealText.{unsigned_input, unsigned_inputs, unsigned_psbt}
 use Rattle.spec_deal.specs.Transactions.{inputs, transaction}
-use Rattle.spec_deal.specs.Wallets.{input_deposit, wallet_of, input_wallet, spent_output}
+use Rattle.spec_deal.specs.Wallets.{input_deposit, wallet_of, input_wallet}
 use Rattle.theory_bitcoin.proofs.Exact.{bytes_cons}
 use Rattle.theory_bitcoin.proofs.Formats.{wide64}
 use Rattle.theory_psbt.specs.Fitting.{IsKnown, IsFitting}

@@ -1,5 +1,5 @@
 -- The scripts that a deal's transactions spend, and those of their outputs, are short.
-use Rattle.std.proofs.Common.{◌≡◌, ℕ, ◌+◌, ◌≤◌, List, [], ◌∷◌, ◌++◌, length, map, Bool, true, false, Option, Some, None}
+use Rattle.std.proofs.Common.{◌≡◌, ℕ, ◌+◌, ◌≤◌, List, [], ◌∷◌, length, map, Bool, true, false, Option, Some, None}
 use Rattle.std.proofs.Common.{refl, sym, subst, arith, length-append, cond}
 use Rattle.std.specs.List.{AllByRecursion}
 use Rattle.std.specs.Option.{option_map, option_map_or, option_and_then}
@@ -11,7 +11,6 @@ use Rattle.spec_terms.specs.Core.{core, puts_of}
 use Rattle.spec_terms.specs.Precondition.{Holding, persistent, volatile}
 use Rattle.spec_terms.specs.declared.path.PathStep.{PathStep}
 use Rattle.spec_bitcoin.specs.declared.label.Label.TheVariants as labels
-use Rattle.spec_bitcoin.specs.declared.tx.TxOut.{TxOut}
 use Rattle.spec_bitcoin.specs.Keys.{pay_to, checksig_byte}
 use Rattle.spec_bitcoin.specs.Verdict.{program_of}
 use Rattle.spec_compiler.specs.declared.unsigned.Spent.{Spent}

@@ -1,16 +1,12 @@
 -- Each line of the texts of `missing` and `held` is read as what it says.
-use Rattle.std.proofs.Common.{◌≡◌, ℕ, ◌+◌, ◌/◌, ◌%◌, ◌≤◌, List, [], ◌∷◌, map, Bool, true, false, Option, refl, sym, ap, ◌∙◌, arith}
+use Rattle.std.proofs.Common.{◌≡◌, ℕ, ◌+◌, ◌/◌, ◌%◌, List, [], ◌∷◌, map, Bool, true, false, Option, refl, ap, ◌∙◌, arith}
 use Rattle.std.specs.Prelude.{◌==◌, nat_lt, ◌&&◌, codes, if◌then◌else◌}
-use Rattle.std.specs.Fmt.{decimal}
-use Rattle.std.specs.List.{AllByRecursion}
 use Rattle.std.specs.Str.{bytes_eq}
 use Rattle.std.proofs.lemmas.Bool.Decides.{nat_tests}
 use Rattle.spec_data.specs.Digits.{hex_digit, hex_text}
 use Rattle.spec_text.specs.Words.{◌>>=◌, a_name, all_of}
-use Rattle.spec_tool.specs.declared.which.Which.{Which}
-use Rattle.spec_tool.specs.declared.which.Which.TheVariants as names
 use Rattle.spec_tool.specs.Keyed.Listed.{which_text}
-use Rattle.spec_deal.specs.DealText.{item_word, verb_text}
+use Rattle.spec_deal.specs.DealText.{item_word}
 use Rattle.theory_text.proofs.Options.{some}
 use Rattle.theory_play_text.specs.Lines.{Words, by_digits}
 use Rattle.theory_play_text.specs.Printable.{IsNamed}
@@ -19,10 +15,10 @@ use Rattle.theory_play_text.proofs.WordsBack.{name_back, name_plain, bytes_back,
 use Rattle.theory_plan_text.specs.PlanLines.{IsWhich}
 use Rattle.theory_plan_text.proofs.AnyLines.{Written}
 use Rattle.theory_plan_text.proofs.PlanRead.{which_back, which_plain}
-use Rattle.theory_deal_text.specs.Signers.{ShownSlot, slot_said, IsSlot}
+use Rattle.theory_deal_text.specs.Signers.{IsSlot}
 use Rattle.theory_deal_text.specs.SignatureLines.{MissingLine, words_may_start, words_once_checked, missing_said, HeldLine, item_said, held_said}
 use Rattle.theory_deal_text.specs.SignatureLines as line
-use Rattle.theory_deal_text.proofs.Words.{signer_word, slot_and, slot_back, slot_plain}
+use Rattle.theory_deal_text.proofs.Words.{slot_and, slot_back, slot_plain}
 
 -- ---- missing
 

@@ -1,7 +1,7 @@
 -- The texts of `missing` and `held` are those of the lines that they show.
-use Rattle.std.proofs.Common.{◌≡◌, ℕ, List, [], ◌∷◌, ◌++◌, map, Bool, true, false, Option, Some, None, refl, sym, ap, ◌∙◌, cond, append_assoc}
+use Rattle.std.proofs.Common.{◌≡◌, ℕ, List, [], ◌∷◌, ◌++◌, map, Bool, true, false, Option, Some, None, refl, sym, ap, ◌∙◌, cond}
 use Rattle.std.proofs.Common.{append-nil}
-use Rattle.std.specs.Prelude.{flat_map, filter, not, ◌||◌, ◌&&◌, is_some, codes}
+use Rattle.std.specs.Prelude.{flat_map, filter, not, ◌||◌, is_some, codes}
 use Rattle.std.specs.Fmt.{decimal}
 use Rattle.std.specs.List.{find, list_any}
 use Rattle.std.specs.Option.{option_map}
@@ -16,20 +16,20 @@ use Rattle.spec_deal.specs.declared.transaction.Wallet.{Wallet}
 use Rattle.spec_deal.specs.DealText as print
 use Rattle.spec_deal.specs.DealText.{slot_words, gate_line, missing_text, item_word, held_text, verb_text}
 use Rattle.spec_deal.specs.Finished.{bytes_or_none, items_or_none, label_party}
-use Rattle.spec_deal.specs.Given.{is_for, has, is_unverified_endorsement, unsettled, has_unverified, first_unendorsed, held}
+use Rattle.spec_deal.specs.Given.{is_for, has, is_unverified_endorsement, has_unverified, first_unendorsed}
 use Rattle.spec_deal.specs.Slots.{Slot, slots, slot_key, slot_digest, is_endorsement}
 use Rattle.spec_deal.specs.Transactions.{no_digest, transactions}
-use Rattle.spec_deal.specs.Wallets.{first_item, second_item, signer_text}
+use Rattle.spec_deal.specs.Wallets.{first_item, second_item}
 use Rattle.theory_play_text.specs.Lines.{Words}
 use Rattle.theory_plan_text.proofs.AnyLines.{line_text, text_of, text_append}
-use Rattle.theory_deal_text.specs.Asked.{Asked, asked, shown_signer, shown_slot, handed_in, is_there, is_needed_first, is_unchecked}
+use Rattle.theory_deal_text.specs.Asked.{Asked, shown_slot, handed_in, is_there, is_needed_first, is_unchecked}
 use Rattle.theory_deal_text.specs.SignatureLines.{MissingLine, HeldLine}
 use Rattle.theory_deal_text.specs.SignatureLines as line
 use Rattle.theory_deal_text.specs.Signatures.{shown_lack, shown_gate, gate_of, shown_missing, shown_witness, shown_handed, if_handed, shown_held}
 use Rattle.theory_deal_text.proofs.AskedSlots.{as_asked, all_asked, mapped_filter, mapped_find, mapped_any}
 use Rattle.theory_deal_text.proofs.PlanTexts.{signer_shown}
 use Rattle.theory_deal_text.proofs.SignatureRead.{missing_written, held_written}
-use Rattle.theory_deal_text.proofs.Words.{line_is, signer_word, slot_and}
+use Rattle.theory_deal_text.proofs.Words.{line_is, slot_and}
 
 module _ (hash : List ℕ → List ℕ) (keys : Keys) where
   abbrev asks : Slot → Asked

@@ -1,5 +1,5 @@
 -- The names of a deal's transactions, those who sign them and the deposits that wallets bring to them can be shown.
-use Rattle.std.proofs.Common.{◌≡◌, ℕ, zero, suc, List, [], ◌∷◌, map, Bool, true, Option, Some, None, refl, sym, ap, subst, ◌∙◌}
+use Rattle.std.proofs.Common.{◌≡◌, ℕ, zero, suc, List, [], ◌∷◌, map, true, Option, Some, None, refl, sym, ap, subst, ◌∙◌}
 use Rattle.std.specs.Prelude.{slice_get, ◌^◌, ◌<◌}
 use Rattle.std.specs.List.{list_all, AllByRecursion}
 use Rattle.std.specs.Option.{option_map, option_map_or, option_and_then}
@@ -26,7 +26,7 @@ use Rattle.spec_compiler.specs.Keyed.ByPath.{PathEnd, at_position, at_branch, en
 use Rattle.spec_text.specs.Words.{◌>>=◌}
 use Rattle.spec_tool.specs.declared.which.Which.{Which}
 use Rattle.spec_tool.specs.declared.which.Which.TheVariants as names
-use Rattle.spec_tool.specs.Keyed.Listed.{Listed, deposit_signer, branch_signers, path_signers, path_listed, initial_listed, listed_at}
+use Rattle.spec_tool.specs.Keyed.Listed.{Listed, deposit_signer, branch_signers, path_listed, initial_listed, listed_at}
 use Rattle.spec_deal.specs.declared.transaction.Wallet.{Wallet}
 use Rattle.spec_deal.specs.Wallets.{puts_at, input_deposit, wallet_of, input_wallet}
 use Rattle.theory_calculus.proofs.Names.{volatile_named}

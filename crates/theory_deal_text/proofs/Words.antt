@@ -1,5 +1,5 @@
 -- Who signs is read from the words that show it; a line is its words.
-use Rattle.std.proofs.Common.{◌≡◌, ℕ, ◌+◌, ◌<◌, ◌^◌, List, [], ◌∷◌, ◌++◌, Bool, true, false, Option, Some, refl, sym, ap, subst, ◌∙◌, arith, append_assoc}
+use Rattle.std.proofs.Common.{◌≡◌, ℕ, List, [], ◌∷◌, ◌++◌, Bool, false, Option, refl, sym, ap, subst, ◌∙◌, arith, append_assoc}
 use Rattle.std.specs.Prelude.{codes}
 use Rattle.std.specs.Fmt.{decimal}
 use Rattle.spec_bitcoin.specs.declared.label.Label.{Label}
@@ -7,9 +7,8 @@ use Rattle.spec_bitcoin.specs.declared.label.Label.TheVariants as labels
 use Rattle.spec_bitcoin.specs.Keys.{label_text, path_text}
 use Rattle.spec_bitcoin.proofs.StepLemmas.{branch_is, deposit_is}
 use Rattle.spec_text.specs.RunText.{newline}
-use Rattle.spec_text.specs.Words.{◌>>=◌, a_name, label}
+use Rattle.spec_text.specs.Words.{◌>>=◌, label}
 use Rattle.spec_tool.specs.declared.which.Which.{Which}
-use Rattle.spec_tool.specs.Commands.{which_of}
 use Rattle.spec_tool.specs.Keyed.Listed.{which_text}
 use Rattle.spec_deal.specs.declared.finish.Verb.{Verb}
 use Rattle.spec_deal.specs.declared.finish.Verb.TheVariants as verbs

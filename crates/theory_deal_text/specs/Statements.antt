@@ -2,9 +2,6 @@
 use Rattle.std.specs.Prelude.{◌≡◌, ℕ, List, [], ◌∷◌, map, Some, Ok}
 use Rattle.spec_data.specs.Hashes.{HashesBytes}
 use Rattle.spec_terms.specs.Advert.{Advert}
-use Rattle.spec_compiler.specs.Keyed.Instance.{Instance}
-use Rattle.spec_compiler.specs.Keyed.Keys.{Keys}
-use Rattle.spec_tool.specs.declared.which.Which.{Which}
 use Rattle.spec_tool.specs.Answers.{contract_in}
 use Rattle.spec_tool.specs.Reads.{Text, text_at}
 use Rattle.spec_deal.specs.declared.deal.Deal.{Deal}

@@ -30,6 +30,7 @@ use theory_deal::{
     plan_of_runs, scripts_are_payable, secret_files_are_read, signature_files_are_read,
     signatures_verify, witnesses_verify,
 };
+use theory_deal_text::{deal_texts_are_read, filled_keys_are_taken};
 use theory_script::any_keys::script_theorem;
 use theory_state::{chain_statuses_have_causes, state_answers};
 use theory_wallets::{
@@ -117,6 +118,7 @@ pub fn deal_tool<H: Hash32 + Drop, F: Files, S: Sink>(
     is_ecdsa();
     deal_files_are_read();
     parts_are_read();
+    filled_keys_are_taken();
     signature_files_are_read();
     secret_files_are_read();
     missing_and_held();
@@ -125,6 +127,7 @@ pub fn deal_tool<H: Hash32 + Drop, F: Files, S: Sink>(
     finish_theorem();
     finish_answers();
     state_answers();
+    deal_texts_are_read();
     chains_are_spelled();
     chains_are_refused();
     followed_exactly();

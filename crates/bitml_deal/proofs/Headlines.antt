@@ -31,6 +31,7 @@ use Rattle.theory_deal.specs.Signatures.{MissingAndHeld, MayStart}
 use Rattle.theory_deal.specs.Transactions.{DealsHash}
 use Rattle.theory_deal.specs.Whole.{FinishesExactly, FinishTheorem}
 use Rattle.theory_deal.proofs.WellFormed.{well_formed}
+use Rattle.theory_deal_text.specs.Statements.{DealTextsAreRead}
 use Rattle.theory_state.specs.Causes.{chain_statuses, ChainCausesTheorem}
 use Rattle.theory_state.specs.StateAnswers.{StateAnswers}
 use Rattle.tool_shell.specs.Around.{Around}
@@ -38,7 +39,7 @@ use Rattle.tool_shell.specs.Answered.{GivesUp}
 use Rattle.tool_shell.proofs.Ended.{ended_with}
 use Rattle.tool_shell.proofs.Seen.{some_command}
 use Rattle.bitml_deal.specs.Dealt.{Answers, AnswersOrGivesUp, HasCausesOf, CausedByTexts, Caused, Keeps, KeepsTaken}
-use Rattle.bitml_deal.specs.Dealt.{KeepsTexts, SignersTexts, IfFinishedBy, IfFinished, IfStandsRead, ReadsFiles, FollowsChains, ForeseesChains, KnowsWallets, Headline}
+use Rattle.bitml_deal.specs.Dealt.{KeepsTexts, SignersTexts, IfFinishedBy, IfFinished, IfStandsRead, IfSaysBy, IfSays, ReadsFiles, FollowsChains, ForeseesChains, KnowsWallets, Headline}
 
 -- the theorems that are cited
 pub record Theorems : Type 0 where
@@ -64,6 +65,7 @@ pub record Theorems : Type 0 where
   pub finished : FinishTheorem
   pub answers : FinishAnswers
   pub stands : StateAnswers
+  pub says : DealTextsAreRead
   pub follows : FollowsChains
   pub foresees : ForeseesChains
   pub wallets : KnowsWallets
@@ -195,6 +197,23 @@ module _ (t : Theorems) (hash : List ℕ → List ℕ) (bytes : HashesBytes hash
   stands None reads = tt
   stands (Some command) reads = stands_by command (texts_read reads)
 
+  -- ---- what a text says
+
+  says_texts : (command : ChainCommand) (texts : List Text) → IfSaysBy hash command texts (chain_text_answer secp256k1 hash command texts)
+  says_texts (on_deal command) texts = t.says secp256k1 hash bytes command texts
+  says_texts (chains.show contract deal) texts = tt
+  says_texts (chains.state contract deal chain signatures) texts = tt
+  says_texts (chains.state_with contract deal chain signatures secrets) texts = tt
+
+  says_by : (command : ChainCommand) (o : Option (List Text)) → IfSays hash (Some command) o (chain_read_answer secp256k1 hash command o)
+  says_by command None = tt
+  says_by command (Some texts) = says_texts command texts
+
+  says : (command : Option ChainCommand) (reads : List Read)
+      → IfSays hash command (texts_read reads) (chain_answer secp256k1 hash command reads)
+  says None reads = tt
+  says (Some command) reads = says_by command (texts_read reads)
+
   -- ---- what signers are given
 
   signers_taken : (texts : List Text) → SignersTexts hash (Some texts)
@@ -222,6 +241,7 @@ module _ (t : Theorems) (hash : List ℕ → List ℕ) (bytes : HashesBytes hash
             keeps = keeps_texts (texts_read a.reads);
             finished = finished command a.reads;
             stands = stands command a.reads;
+            says = says command a.reads;
             signers = signers_texts (texts_read a.reads);
             verifier = t.verifier;
             files = t.files;

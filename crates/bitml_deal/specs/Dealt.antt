@@ -48,6 +48,8 @@ use Rattle.theory_deal.specs.Signatures.{ListsExactly, StartsExactly}
 use Rattle.theory_deal.specs.Used.{KeysAreUsed}
 use Rattle.theory_deal.specs.Weights.{AreLight}
 use Rattle.theory_deal.specs.Whole.{AreRead, IsComplete, IsFinished}
+use Rattle.theory_deal_text.specs.Filled.{FilledKeysAreTaken}
+use Rattle.theory_deal_text.specs.Statements.{Says}
 use Rattle.theory_chain.specs.Aside.{AsideAnywhere}
 use Rattle.theory_chain.specs.Files.{ChainsAreSpelled, ChainsAreRefused}
 use Rattle.theory_chain.specs.Follows.{FollowedExactly, RefusedExactly}
@@ -210,6 +212,20 @@ IfStandsRead hash None texts printed = Unit {0}
 IfStandsRead hash (Some command) None printed = Unit {0}
 IfStandsRead hash (Some command) (Some texts) printed = IfStands secp256k1 hash command texts printed
 
+-- ---- texts
+
+-- what is needed, planned, given to signers, missing and held is read back from the text that says so
+abbrev pub IfSaysBy : (List ℕ → List ℕ) → ChainCommand → List Text → Printed → Type 0
+IfSaysBy hash (on_deal command) texts printed = Says secp256k1 hash command texts printed.text
+IfSaysBy hash (chains.show contract deal) texts printed = Unit {0}
+IfSaysBy hash (chains.state contract deal chain signatures) texts printed = Unit {0}
+IfSaysBy hash (chains.state_with contract deal chain signatures secrets) texts printed = Unit {0}
+
+abbrev pub IfSays : (List ℕ → List ℕ) → Option ChainCommand → Option (List Text) → Printed → Type 0
+IfSays hash None texts printed = Unit {0}
+IfSays hash (Some command) None printed = Unit {0}
+IfSays hash (Some command) (Some texts) printed = IfSaysBy hash command texts printed
+
 -- what signers are given of a deal that is taken
 abbrev pub SignersTexts : (List ℕ → List ℕ) → Option (List Text) → Type 0
 SignersTexts hash None = Unit {0}
@@ -224,6 +240,8 @@ pub record ReadsFiles : Type 0 where
   pub deals : DealFilesAreRead
   -- also a deal file that may lack lines
   pub parts : PartsAreRead
+  -- and the text of `keys` with its blanks filled in
+  pub filled : FilledKeysAreTaken
   pub signatures : SignatureFilesAreRead
   pub secrets : SecretFilesAreRead
   pub chains : ChainsAreSpelled
@@ -301,6 +319,8 @@ pub record Serves (hash : List ℕ → List ℕ) (command : Option ChainCommand)
   pub finished : IfFinished hash command (texts_read answers.reads) (chain_answer secp256k1 hash command answers.reads)
   -- and where a deal stands
   pub stands : IfStandsRead hash command (texts_read answers.reads) (chain_answer secp256k1 hash command answers.reads)
+  -- and its text says it all
+  pub says : IfSays hash command (texts_read answers.reads) (chain_answer secp256k1 hash command answers.reads)
   -- and the transactions for signers are those of its contract, each under its name
   pub signers : SignersTexts hash (texts_read answers.reads)
   -- signatures are judged by the curve

@@ -30,6 +30,7 @@ use theory_deal::{
     plan_of_runs, scripts_are_payable, secret_files_are_read, signature_files_are_read,
     signatures_verify, witnesses_verify,
 };
+use theory_deal_text::{deal_texts_are_read, filled_keys_are_taken};
 use theory_follow::{asides_left_out, chains_come, ledgers_follow, taken_stands};
 use theory_script::any_keys::script_theorem;
 use theory_state::{chain_statuses_have_causes, state_answers};
@@ -118,6 +119,7 @@ pub fn deal_tool<H: Hash32 + Drop, F: Files, S: Sink>(
     is_ecdsa();
     deal_files_are_read();
     parts_are_read();
+    filled_keys_are_taken();
     signature_files_are_read();
     secret_files_are_read();
     missing_and_held();
@@ -126,6 +128,7 @@ pub fn deal_tool<H: Hash32 + Drop, F: Files, S: Sink>(
     finish_theorem();
     finish_answers();
     state_answers();
+    deal_texts_are_read();
     chains_are_spelled();
     chains_are_refused();
     followed_exactly();

@@ -1,0 +1,10 @@
+pub mod Signers
+pub mod Asked
+pub mod PlanLines
+pub mod Plan
+pub mod SignatureLines
+pub mod Signatures
+pub mod Psbts
+pub mod Keys
+pub mod Filled
+pub mod Statements

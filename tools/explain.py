@@ -48,7 +48,7 @@ def say_of_contract(asked, number, reason):
     name, text = asked.file('CONTRACT', number)
     if is_run(text):
         say(name, 'looks like a run file, which is the first word' +
-            (': ./bitml next RUN CONTRACT' if asked.words[0] == 'next' and len(asked.words) == 2 else ''))
+            (': ./bitml %s RUN CONTRACT' % asked.words[0] if asked.words[0] in ('draw', 'next') and len(asked.words) == 2 else ''))
     if text.startswith(b'\xef\xbb\xbf'):
         say(name, 'begins with the bytes EF BB BF, which some editors write and which are no part of the text')
         return

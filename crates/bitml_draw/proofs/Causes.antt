@@ -1,122 +1,98 @@
--- Each status that the texts of a page's files are answered with comes exactly by its cause.
-use Rattle.std.proofs.Common.{◌≡◌, ℕ, ◌↔◌, true, false, List, [], ◌∷◌, Ok, Err, refl, sym, arith}
-use Rattle.std.specs.Prelude.{is_err}
-use Rattle.std.proofs.lemmas.Bool.{false≢true}
+-- Each status that the texts of files are answered with comes exactly by its cause: it is the status of `check`, or of `play`.
+use Rattle.std.proofs.Common.{◌≡◌, ℕ, true, List, [], ◌∷◌, Ok, Err, refl, subst, arith}
+use Rattle.std.specs.Prelude.{◌↔◌}
+use Rattle.spec_data.specs.Lists.{has_number}
 use Rattle.spec_terms.specs.Advert.{Advert}
 use Rattle.spec_run.specs.declared.event.Event.{Event}
 use Rattle.spec_run.specs.declared.event.Run.{Run}
 use Rattle.spec_run.specs.Setup.{Setup}
-use Rattle.spec_text.specs.Played.{ending}
+use Rattle.spec_text.specs.PlayText.{Ending, whole, guessed, collided}
+use Rattle.spec_text.specs.Played.{ending, play_text}
 use Rattle.spec_text.specs.Refusals.{Judged}
-use Rattle.spec_tool.specs.Reads.{Text}
-use Rattle.spec_tool.specs.Commands.{JudgedAll, ending_status, run_answer, both_judged, setup_of}
 use Rattle.spec_tool.specs.Answers.{contract_in, contracts_in, run_in}
-use Rattle.spec_page.specs.Page.{page_text}
-use Rattle.theory_tool.specs.Runs.{IsGuessing, IsColliding, IsUnhalted}
-use Rattle.theory_tool.specs.Statuses.{PlaysFiles}
-use Rattle.theory_tool.proofs.Statuses.{apart}
-use Rattle.theory_tool.proofs.Runs.{run_exactly}
-use Rattle.draw_replies.specs.PageAnswer.{sheet_judged, page_texts}
-use Rattle.bitml_draw.specs.PageCauses.{AllIsWell, Plays, HasCauses, is_run_refused, is_contract_refused}
+use Rattle.spec_tool.specs.Commands.{JudgedAll, check, play, check_judged, ending_status, run_answer, both_judged, setup_of}
+use Rattle.spec_tool.specs.Reads.{Text}
+use Rattle.theory_commands.specs.Causes.{HasCausesInFiles, CausesInFiles}
+use Rattle.draw_replies.specs.declared.form.Form.{Form}
+use Rattle.draw_replies.specs.DrawnTexts.{run_drawn, sheet_judged, drawn_texts}
+use Rattle.bitml_draw.specs.Causes.{HasCauses}
 
--- a status is each exactly by its cause, and no other
-record ByCauses (A B C D E : Type 0) (n : ℕ) : Type 0 where
-  whole : (n ≡ 0) ↔ A
-  contract : (n ≡ 1) ↔ B
-  run : (n ≡ 6) ↔ C
-  guess : (n ≡ 7) ↔ D
-  collision : (n ≡ 8) ↔ E
+-- ---- the statuses that there are
 
--- neither comes
-neither_is : (n m : ℕ) (X : Type 0) → (n ≡ m → ⊥) → (X → ⊥) → (n ≡ m) ↔ X
-neither_is n m X other empty = (λ e. absurd (other e), λ x. absurd (empty x))
+abbrev pub numbers : List ℕ
+numbers = 0 ∷ (1 ∷ (6 ∷ (7 ∷ (8 ∷ []))))
 
--- statuses, with names
-abbrev zero_status : ℕ
-zero_status = 0
+of_ending : (end : Ending) → has_number (ending_status end) numbers ≡ true
+of_ending (whole tip live g offers) = refl
+of_ending (guessed event party secret) = refl
+of_ending (collided event earlier later) = refl
 
-abbrev one : ℕ
-one = 1
+-- of a run and its contracts, whatever is shown of them
+known_run : (shown : Setup → List Event → List ℕ) (hash : List ℕ → List ℕ) (run : Judged Run) (contracts : JudgedAll)
+    → has_number (both_judged (run_answer shown) hash run contracts).status numbers ≡ true
+known_run shown hash (Err why) contracts = refl
+known_run shown hash (Ok run) (Err refusal) = refl
+known_run shown hash (Ok run) (Ok adverts) = of_ending (ending (setup_of hash run adverts) run.events)
 
-abbrev two : ℕ
-two = 2
-
-abbrev six : ℕ
-six = 6
-
-not_false : true ≡ false → ⊥
-not_false e = false≢true (sym e)
-
-module _ (hash : List ℕ → List ℕ) (title : List ℕ) where
-  refused_run : (A D E : Type 0) → (A → ⊥) → (D → ⊥) → (E → ⊥) → (B : Type 0) → (B → ⊥) → ByCauses A B (true ≡ true) D E six
-  refused_run A D E no_a no_d no_e B no_b = record {
-    whole = neither_is six 0 A (λ e. omega (arith, e)) no_a;
-    contract = neither_is six 1 B (λ e. omega (arith, e)) no_b;
-    run = (λ e. refl, λ e. refl);
-    guess = neither_is six 7 D (λ e. omega (arith, e)) no_d;
-    collision = neither_is six 8 E (λ e. omega (arith, e)) no_e;
-  }
-
-  refused_contract : (A D E : Type 0) → (A → ⊥) → (D → ⊥) → (E → ⊥)
-      → ByCauses A ((false ≡ false) × (true ≡ true)) (false ≡ true) D E one
-  refused_contract A D E no_a no_d no_e = record {
-    whole = neither_is one 0 A (λ e. omega (arith, e)) no_a;
-    contract = (λ e. (refl, refl), λ e. refl);
-    run = neither_is one 6 (false ≡ true) (λ e. omega (arith, e)) false≢true;
-    guess = neither_is one 7 D (λ e. omega (arith, e)) no_d;
-    collision = neither_is one 8 E (λ e. omega (arith, e)) no_e;
-  }
-
-  played_run : (s : Setup) (es : List Event)
-      → ByCauses (IsUnhalted s es) ((false ≡ false) × (false ≡ true)) (false ≡ true) (IsGuessing s es) (IsColliding s es)
-      (ending_status (ending s es))
-  played_run s es =
-      let n = ending_status (ending s es) in
-      let x = run_exactly s es in
-      record {
-        whole = x.whole;
-        contract = neither_is n 1 ((false ≡ false) × (false ≡ true)) (apart 1 (0 ∷ (7 ∷ (8 ∷ []))) refl n x.few) (λ b. false≢true b.1);
-        run = neither_is n 6 (false ≡ true) (apart 6 (0 ∷ (7 ∷ (8 ∷ []))) refl n x.few) false≢true;
-        guess = x.guess;
-        collision = x.collision;
-      }
-
-  of_files : (run : Judged Run) (contracts : JudgedAll)
-      → ByCauses (PlaysFiles hash IsUnhalted run contracts) ((is_err run ≡ false) × (is_err contracts ≡ true)) (is_err run ≡ true)
-      (PlaysFiles hash IsGuessing run contracts) (PlaysFiles hash IsColliding run contracts)
-      (both_judged (run_answer (page_text title)) hash run contracts).status
-  of_files (Err why) contracts =
-      refused_run ⊥ ⊥ ⊥ (λ x. x) (λ x. x) (λ x. x) ((true ≡ false) × (is_err contracts ≡ true)) (λ b. not_false b.0)
-  of_files (Ok run) (Err refusal) = refused_contract ⊥ ⊥ ⊥ (λ x. x) (λ x. x) (λ x. x)
-  of_files (Ok run) (Ok adverts) = played_run (setup_of hash run adverts) run.events
-
-  of_contract : (contract : Judged Advert)
-      → ByCauses (is_err contract ≡ false) ((false ≡ false) × (is_err contract ≡ true)) (false ≡ true) ⊥ ⊥ (sheet_judged title contract).status
-  of_contract (Err why) = refused_contract (true ≡ false) ⊥ ⊥ not_false (λ x. x) (λ x. x)
-  of_contract (Ok advert) = record {
-    whole = (λ e. refl, λ e. refl);
-    contract = neither_is zero_status 1 ((false ≡ false) × (false ≡ true)) (λ e. omega (arith, e)) (λ b. false≢true b.1);
-    run = neither_is zero_status 6 (false ≡ true) (λ e. omega (arith, e)) false≢true;
-    guess = neither_is zero_status 7 ⊥ (λ e. omega (arith, e)) (λ x. x);
-    collision = neither_is zero_status 8 ⊥ (λ e. omega (arith, e)) (λ x. x);
-  }
+module _ (form : Form) (title : List ℕ) where
+  known_contract : (contract : Judged Advert) → has_number (sheet_judged title contract).status numbers ≡ true
+  known_contract (Err why) = refl
+  known_contract (Ok advert) = refl
 
   -- of the texts of one file or more
-  of_texts : (first : Text) (more : List Text)
-      → ByCauses (AllIsWell hash (first ∷ more)) ((is_run_refused (first ∷ more) ≡ false) × (is_contract_refused (first ∷ more) ≡ true))
-      (is_run_refused (first ∷ more) ≡ true) (Plays hash IsGuessing (first ∷ more)) (Plays hash IsColliding (first ∷ more))
-      (page_texts title hash (first ∷ more)).status
-  of_texts contract [] = of_contract (contract_in contract)
-  of_texts run (contract ∷ contracts) = of_files (run_in run) (contracts_in 0 (contract ∷ contracts))
+  pub known : (hash : List ℕ → List ℕ) (first : Text) (more : List Text)
+      → has_number (drawn_texts form title hash (first ∷ more)).status numbers ≡ true
+  known hash contract [] = known_contract (contract_in contract)
+  known hash run (contract ∷ contracts) = known_run (run_drawn form title) hash (run_in run) (contracts_in 0 (contract ∷ contracts))
 
-  pub causes : (texts : List Text) → HasCauses hash texts (page_texts title hash texts).status
-  causes [] = record {
-    whole = neither_is two 0 ⊥ (λ e. omega (arith, e)) (λ x. x);
-    contract_refused = neither_is two 1 ((false ≡ false) × (false ≡ true)) (λ e. omega (arith, e)) (λ b. false≢true b.1);
-    run_refused = neither_is two 6 (false ≡ true) (λ e. omega (arith, e)) false≢true;
-    guessed = neither_is two 7 ⊥ (λ e. omega (arith, e)) (λ x. x);
-    collided = neither_is two 8 ⊥ (λ e. omega (arith, e)) (λ x. x);
+-- ---- what they come by
+
+-- what is shown of a run is all one to its status
+same_run : (shown : Setup → List Event → List ℕ) (hash : List ℕ → List ℕ) (run : Judged Run) (contracts : JudgedAll)
+    → (both_judged (run_answer play_text) hash run contracts).status ≡ (both_judged (run_answer shown) hash run contracts).status
+same_run shown hash (Err why) contracts = refl
+same_run shown hash (Ok run) (Err refusal) = refl
+same_run shown hash (Ok run) (Ok adverts) = refl
+
+same_contract : (title : List ℕ) (contract : Judged Advert) → (check_judged contract).status ≡ (sheet_judged title contract).status
+same_contract title (Err why) = refl
+same_contract title (Ok advert) = refl
+
+module _ (files : CausesInFiles) (form : Form) (title : List ℕ) (hash : List ℕ → List ℕ) where
+  of_check : (contract : Text) (n : ℕ) → HasCausesInFiles hash (check []) (contract ∷ []) n → HasCauses hash (contract ∷ []) n
+  of_check contract n c = record {
+    whole = c.whole;
+    contract_refused = c.contract_refused;
+    run_refused = c.run_refused;
+    guessed = c.guessed;
+    collided = c.collided;
   }
-  causes (first ∷ more) =
-      let x = of_texts first more in
-      record { whole = x.whole; contract_refused = x.contract; run_refused = x.run; guessed = x.guess; collided = x.collision }
+
+  of_play : (run contract : Text) (contracts : List Text) (n : ℕ) → HasCausesInFiles hash (play [] []) (run ∷ contract ∷ contracts) n
+      → HasCauses hash (run ∷ contract ∷ contracts) n
+  of_play run contract contracts n c = record {
+    whole = c.whole;
+    contract_refused = c.contract_refused;
+    run_refused = c.run_refused;
+    guessed = c.guessed;
+    collided = c.collided;
+  }
+
+  -- neither is the usage, nor comes a cause
+  not_two : (n : ℕ) → (2 ≡ n → ⊥) → (2 ≡ n) ↔ ⊥
+  not_two n other = (other, λ x. absurd x)
+
+  pub causes : (texts : List Text) → HasCauses hash texts (drawn_texts form title hash texts).status
+  causes [] = record {
+    whole = not_two 0 (λ e. omega (arith, e));
+    contract_refused = not_two 1 (λ e. omega (arith, e));
+    run_refused = not_two 6 (λ e. omega (arith, e));
+    guessed = not_two 7 (λ e. omega (arith, e));
+    collided = not_two 8 (λ e. omega (arith, e));
+  }
+  causes (contract ∷ []) =
+      subst (HasCauses hash (contract ∷ [])) (same_contract title (contract_in contract))
+      (of_check contract _ (files hash (check []) (contract ∷ [])))
+  causes (run ∷ contract ∷ contracts) =
+      subst (HasCauses hash (run ∷ contract ∷ contracts)) (same_run (run_drawn form title) hash (run_in run) (contracts_in 0 (contract ∷ contracts)))
+      (of_play run contract contracts _ (files hash (play [] []) (run ∷ contract ∷ contracts)))

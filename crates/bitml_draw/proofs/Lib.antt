@@ -1,7 +1,4 @@
 mod Causes
 mod Few
 mod Headlines
-mod Left
-mod Pages
-mod Pictures
-mod Taken
+mod Shown

@@ -1,39 +1,28 @@
 -- What the program that draws promises, from its words to its status.
-use Rattle.std.specs.Prelude.{◌≡◌, ℕ, ◌≤◌, List, [], ◌∷◌, length, map, true, ◌⊎◌, Option, Some, None, option_map, string_bytes, Ok}
-use Rattle.spec_data.specs.Lists.{are_different}
+use Rattle.std.specs.Prelude.{◌≡◌, ℕ, ◌≤◌, List, [], length, map, true, ◌⊎◌, Option, Some, None, is_some, option_map, string_bytes}
 use Rattle.spec_data.specs.Ranges.{most_contracts}
-use Rattle.spec_terms.specs.Advert.{Advert}
-use Rattle.spec_run.specs.declared.event.Event.{Event}
-use Rattle.spec_run.specs.declared.event.Run.{Run}
-use Rattle.spec_run.specs.Setup.{Setup}
-use Rattle.spec_text.specs.declared.entry.Entry.{Entry}
-use Rattle.spec_text.specs.Played.{entries, ending}
-use Rattle.spec_text.specs.Refusals.{contract_of, run_of}
-use Rattle.spec_tool.specs.Reads.{Read, Text, texts_read}
 use Rattle.spec_run.specs.Conditions.{HashesBytes}
-use Rattle.spec_tool.specs.Commands.{Printed, plan, setup_of}
-use Rattle.spec_picture.specs.declared.last.Last.{Last}
-use Rattle.spec_picture.specs.Drawing.{drawn_of, last_of}
-use Rattle.spec_picture.specs.Statements.{IsPictureOf, drawn}
+use Rattle.spec_tool.specs.Reads.{Read, Text, texts_read}
+use Rattle.spec_tool.specs.Commands.{Printed}
+use Rattle.bm_io.specs.Counts.{RoseBy}
 use Rattle.tool_shell.specs.Around.{Around}
 use Rattle.tool_shell.specs.Answered.{AnswersBy, AnswersByOrGivesUp, GivesUp}
 use Rattle.bitml_draw.specs.declared.call.DrawCall.{DrawCall}
 use Rattle.bitml_draw.specs.declared.call.DrawCall.TheVariants as calls
-use Rattle.bitml_draw.specs.DrawAnswer.{DrawCommand, draws, sheets, pages, draw_files, draw_title, draw_answer}
-use Rattle.bitml_draw.specs.PageCauses.{HasCauses}
-use Rattle.bitml_draw.specs.PageShown.{ShowsContractFile, ShowsRunFiles}
+use Rattle.bitml_draw.specs.Causes.{HasCauses, SaysRefusals}
+use Rattle.bitml_draw.specs.DrawAnswer.{DrawCommand, draws, sheets, form_of, draw_files, draw_title, draw_answer, draw_words}
+use Rattle.bitml_draw.specs.Shown.{ShowsContractFile, ShowsRunFiles}
 
 -- ---- the call
 
 -- the call as the definition has it
 abbrev pub seen : DrawCall → DrawCommand
-seen (calls.Picture run contract) = draws (plan run.now contract.now)
 seen (calls.Sheet contract) = sheets contract.now
-seen (calls.Page run contracts) = pages run.now (map string_bytes contracts.now)
+seen (calls.Run form run contracts) = draws form run.now (map string_bytes contracts.now)
 
 -- a run has no more contracts than it may have
 abbrev pub HasFew : Option DrawCommand → Type 0
-HasFew (Some (pages run contracts)) = length contracts ≤ most_contracts
+HasFew (Some (draws form run contracts)) = length contracts ≤ most_contracts
 HasFew _ = Unit {0}
 
 -- ---- answers
@@ -47,38 +36,15 @@ abbrev pub AnswersOrGivesUp : (List ℕ → List ℕ) → Option DrawCommand →
 AnswersOrGivesUp hash command before now status =
     AnswersByOrGivesUp (draw_answer hash command) (option_map draw_files command) before now status
 
--- ---- pictures
-
--- a text is a picture of a contract and a run in which nothing stands twice
-pub record ShowsOnce (advert : Advert) (rows : List Entry) (last : Last) (text : List ℕ) : Type 0 where
-  pub picture : IsPictureOf advert rows last text
-  pub once : are_different (drawn advert rows last) ≡ true
-
--- so is it of a contract and of all that these events came to
-abbrev pub ShowsRun : Setup → List Event → Advert → List ℕ → Type 0
-ShowsRun s es advert text = ShowsOnce advert (drawn_of (ending s es) (entries s es)) (last_of (ending s es)) text
-
--- where a run and its contract are taken
-abbrev pub ShowsTaken : (List ℕ → List ℕ) → List Text → Printed → Type 0
-ShowsTaken hash texts printed =
-    (run_text contract_text : List ℕ) (run : Run) (advert : Advert)
-    → texts ≡ Some run_text ∷ Some contract_text ∷ [] → run_of run_text ≡ Ok run → contract_of contract_text ≡ Ok advert
-    → ShowsRun (setup_of hash run (advert ∷ [])) run.events advert printed.text
-
--- ---- pages
-
--- what is answered to the texts of a page's files: each status comes exactly by its cause, and the text is the page
-pub record ShowsPages (title : List ℕ) (hash : List ℕ → List ℕ) (texts : List Text) (printed : Printed) : Type 0 where
-  pub causes : HasCauses hash texts printed.status
-  pub run : ShowsRunFiles title hash texts printed
-  pub contract : ShowsContractFile title texts printed
-
 -- ---- what is read
 
-abbrev pub ShowsTexts : (List ℕ → List ℕ) → DrawCommand → List Text → Printed → Type 0
-ShowsTexts hash (draws command) texts printed = ShowsTaken hash texts printed
-ShowsTexts hash (sheets contract) texts printed = ShowsPages (draw_title (sheets contract)) hash texts printed
-ShowsTexts hash (pages run contracts) texts printed = ShowsPages (draw_title (pages run contracts)) hash texts printed
+-- what is answered to the texts of files: each status comes exactly by its cause, and what they hold is drawn, or the first that is refused
+-- is said
+pub record ShowsTexts (hash : List ℕ → List ℕ) (command : DrawCommand) (texts : List Text) (printed : Printed) : Type 0 where
+  pub causes : HasCauses hash texts printed.status
+  pub refusals : SaysRefusals texts printed
+  pub run : ShowsRunFiles (form_of command) (draw_title command) hash texts printed
+  pub contract : ShowsContractFile (draw_title command) texts printed
 
 -- a read that failed is answered by 3 and nothing
 abbrev pub ShowsRead : (List ℕ → List ℕ) → DrawCommand → Option (List Text) → Printed → Type 0
@@ -92,15 +58,24 @@ Shows hash (Some command) reads printed = ShowsRead hash command (texts_read rea
 
 -- ---- the whole
 
--- an answer; of a run and a contract that are taken it is their picture, in which nothing stands twice; behind `--page` it is their page
+-- an answer, which draws what the files hold
 pub record Draws (hash : List ℕ → List ℕ) (command : Option DrawCommand) (before now : Around) (status : ℕ) : Type 0 where
   pub answers : Answers hash command before now status
   pub shows : Shows hash command answers.reads (draw_answer hash command answers.reads)
 
-abbrev pub DrawsOrGivesUp : (List ℕ → List ℕ) → Option DrawCommand → Around → Around → ℕ → Type 0
-DrawsOrGivesUp hash command before now status = Draws hash command before now status ⊎ GivesUp (option_map draw_files command) before now status
+-- what a call with these words does to what stands around it, and its status
+pub record Serves (hash : List ℕ → List ℕ) (words : List (List ℕ)) (before now : Around) (status : ℕ) : Type 0 where
+  pub draws : Draws hash (draw_words words) before now status ⊎ GivesUp (option_map draw_files (draw_words words)) before now status
+  -- the usage answers nothing but words that are no command
+  pub usage : status ≡ 2 → draw_words words ≡ None
+  -- a fault of the files is answered only where their count rose
+  pub unread : status ≡ 3 → RoseBy 1 before.read_faults now.read_faults
+  -- a fault of the sink is answered only where its count rose
+  pub unwritten : status ≡ 4 → RoseBy 1 before.write_faults now.write_faults
+  -- memory never runs out where the words are no command
+  pub memory : status ≡ 5 → is_some (draw_words words) ≡ true
 
 -- a call that gives the defined answer, or gives up as memory ran out, draws what is asked for
 abbrev pub DrawsAll : Type 0
-DrawsAll = (hash : List ℕ → List ℕ) → HashesBytes hash → (command : Option DrawCommand) (before now : Around) (status : ℕ)
-    → AnswersOrGivesUp hash command before now status → DrawsOrGivesUp hash command before now status
+DrawsAll = (hash : List ℕ → List ℕ) → HashesBytes hash → (words : List (List ℕ)) (before now : Around) (status : ℕ)
+    → AnswersOrGivesUp hash (draw_words words) before now status → Serves hash words before now status

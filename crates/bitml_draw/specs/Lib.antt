@@ -1,4 +1,4 @@
+pub mod Causes
 pub mod DrawAnswer
 pub mod Drawn
-pub mod PageCauses
-pub mod PageShown
+pub mod Shown

@@ -2,16 +2,15 @@
 
 ghost use Rattle.std.specs.Prelude.{◌≡◌, ◌++◌, codes, map, string_bytes, option_map, IfOk, OnOk};
 ghost use Rattle.std.specs.Str.{bytes_eq};
-ghost use Rattle.spec_tool.specs.Commands.{files_of as files_named, plan};
-ghost use Rattle.spec_picture.specs.Drawing.{title_of, words_drawn};
 ghost use Rattle.tool_shell.specs.Asked.{asked};
-ghost use Rattle.bitml_draw.specs.DrawAnswer.{draw_files, draw_title, draw_words, draws, further_names, page_words, paged};
+ghost use Rattle.bitml_draw.specs.DrawAnswer.{draw_files, draw_title, draw_words, few_words, further_names, page_words, svg_words};
 ghost use Rattle.bitml_draw.specs.Drawn.{seen, HasFew};
 
 use bm_text::put;
+use draw_replies::Form;
 use spec_data::{MOST_TEXT_BYTES, OutOfMemory};
 use std::alloc::Global;
-use tool_command::{Command, files_of, run_files};
+use tool_command::run_files;
 
 /// The most contracts of a run.
 const MOST_CONTRACTS: usize = 16;
@@ -19,37 +18,24 @@ const MOST_CONTRACTS: usize = 16;
 /// What words ask for; files go by the words that name them.
 #[derive(Drop)]
 pub(crate) enum DrawCall<'a> {
-    /// The picture of a run and its contract.
-    Picture(&'a str, &'a str),
     /// The page of a contract.
     Sheet(&'a str),
-    /// The page of a run and its contracts.
-    Page(&'a str, &'a [String]),
-}
-
-// The picture of a run and its contract, where the words are two.
-fn two(words: &[String]) -> Option<DrawCall<'_>>
-    ensures call { option_map seen result ≡ option_map draws (words_drawn (map string_bytes words.now)) }
-    ensures few { HasFew (option_map seen result) }
-{
-    match words {
-        [run, contract] => Some(DrawCall::Picture(run.as_str(), contract.as_str())),
-        _ => None,
-    }
+    /// A run and its contracts, in this form.
+    Run(Form, &'a str, &'a [String]),
 }
 
 // A run and its contracts, of which there are at most 16.
-fn page<'a>(run: &'a String, contracts: &'a [String]) -> Option<DrawCall<'a>>
-    ensures call { option_map seen result ≡ paged (string_bytes run.now) (map string_bytes contracts.now) }
+fn few<'a>(form: Form, run: &'a String, contracts: &'a [String]) -> Option<DrawCall<'a>>
+    ensures call { option_map seen result ≡ few_words form (string_bytes run.now) (map string_bytes contracts.now) }
     ensures few { HasFew (option_map seen result) }
 {
     if contracts.len() > MOST_CONTRACTS {
         return None;
     }
-    Some(DrawCall::Page(run.as_str(), contracts))
+    Some(DrawCall::Run(form, run.as_str(), contracts))
 }
 
-// The page that words behind `--page` ask for.
+// The page that words ask for.
 fn paging(words: &[String]) -> Option<DrawCall<'_>>
     ensures call { option_map seen result ≡ page_words (map string_bytes words.now) }
     ensures few { HasFew (option_map seen result) }
@@ -57,19 +43,30 @@ fn paging(words: &[String]) -> Option<DrawCall<'_>>
     match words {
         [] => None,
         [contract] => Some(DrawCall::Sheet(contract.as_str())),
-        [run, contracts @ ..] => page(run, contracts),
+        [run, contracts @ ..] => few(Form::Page, run, contracts),
     }
 }
 
-// Whether the word asks for a page.
-fn is_page(word: &String) -> bool
-    ensures { result ≡ bytes_eq (string_bytes word.now) (codes "--page") }
+// The SVG that words behind `--svg` ask for.
+fn drawing(words: &[String]) -> Option<DrawCall<'_>>
+    ensures call { option_map seen result ≡ svg_words (map string_bytes words.now) }
+    ensures few { HasFew (option_map seen result) }
 {
-    word.as_str() == "--page"
+    match words {
+        [] => None,
+        [_] => None,
+        [run, contracts @ ..] => few(Form::Svg, run, contracts),
+    }
 }
 
-/// The call that the words are, if they are one: a run and its contract, or `--page` before a contract or before a run and up to 16
-/// contracts.
+// Whether the word asks for an SVG.
+fn is_svg(word: &String) -> bool
+    ensures { result ≡ bytes_eq (string_bytes word.now) (codes "--svg") }
+{
+    word.as_str() == "--svg"
+}
+
+/// The call that the words are, if they are one: a contract, or a run and up to 16 contracts, which `--svg` may stand before.
 pub(crate) fn call_of(words: &[String]) -> Option<DrawCall<'_>>
     ensures call { option_map seen result ≡ draw_words (map string_bytes words.now) }
     ensures few { HasFew (option_map seen result) }
@@ -77,10 +74,10 @@ pub(crate) fn call_of(words: &[String]) -> Option<DrawCall<'_>>
     match words {
         [] => None,
         [word, others @ ..] => {
-            if is_page(word) {
-                paging(others)
+            if is_svg(word) {
+                drawing(others)
             } else {
-                two(words)
+                paging(words)
             }
         }
     }
@@ -94,22 +91,9 @@ pub(crate) fn files_in<'a>(
     ensures { IfOk result (λ v. map asked v.items ≡ draw_files (seen call.now)) }
 {
     match call {
-        DrawCall::Picture(run, contract) => files_of(alloc, &Command::Plan(run, contract)),
         DrawCall::Sheet(contract) => Vec::from_slice(alloc, &[(*contract, MOST_TEXT_BYTES)]),
-        DrawCall::Page(run, contracts) => run_files(alloc, run, contracts),
+        DrawCall::Run(_, run, contracts) => run_files(alloc, run, contracts),
     }
-}
-
-// The names of a run and of its contract.
-#[tactic(auto, using(std::proofs::Common::append_assoc))]
-fn two_names(alloc: Global, run: &str, contract: &str) -> Result<Vec<u8>, OutOfMemory>
-    ensures { IfOk result (λ title. title.items ≡ title_of (files_named (plan run.now contract.now))) }
-{
-    let mut title = Vec::new(alloc);
-    put(&mut title, run.as_bytes())?;
-    put(&mut title, b" and ")?;
-    put(&mut title, contract.as_bytes())?;
-    Ok(title)
 }
 
 // A name behind others.
@@ -147,8 +131,7 @@ pub(crate) fn title_in(alloc: Global, call: &DrawCall) -> Result<Vec<u8>, OutOfM
     ensures { IfOk result (λ title. title.items ≡ draw_title (seen call.now)) }
 {
     match call {
-        DrawCall::Picture(run, contract) => two_names(alloc, run, contract),
         DrawCall::Sheet(contract) => Vec::from_slice(alloc, contract.as_bytes()),
-        DrawCall::Page(run, contracts) => all_names(alloc, run, contracts),
+        DrawCall::Run(_, run, contracts) => all_names(alloc, run, contracts),
     }
 }

@@ -1,10 +1,9 @@
-//! The program behind `bitml draw`, which draws a contract and a run as SVG, or writes the page of a run with its contracts or of a
-//! contract. Its call `draw_tool` says that status and text are the defined ones, that an SVG is a picture of that run, and that a page
-//! has the theorems of `theory_page`.
+//! The program behind `bitml draw`, which writes the page of a contract, or a run with its contracts as a page or as SVG. Its call
+//! `draw_tool` says that status and text are the defined ones, that each status comes exactly by its cause in the files, and that what is
+//! written has the theorems of `theory_page`.
 #![tactic(auto)]
 
 mod call;
-mod playing;
 mod replying;
 mod theorem;
 mod tool;

@@ -4,8 +4,8 @@ ghost use Rattle.std.specs.Prelude.{◌≡◌, ℕ, List, length, Some, map, str
 ghost use Rattle.spec_tool.specs.Replies.{printed};
 ghost use Rattle.tool_shell.specs.Around.{around};
 ghost use Rattle.tool_shell.specs.Asked.{asked};
-ghost use Rattle.bitml_draw.specs.DrawAnswer.{draw_files, draw_words, drawn_read};
-ghost use Rattle.bitml_draw.specs.Drawn.{seen, HasFew, DrawsOrGivesUp};
+ghost use Rattle.bitml_draw.specs.DrawAnswer.{draw_files, drawn_read};
+ghost use Rattle.bitml_draw.specs.Drawn.{seen, HasFew, Serves};
 
 use crate::call::{DrawCall, call_of, files_in, title_in};
 use crate::replying::drawn_reply;
@@ -47,9 +47,9 @@ impl Call for DrawCall<'_> {
     }
 }
 
-/// Draws what the words ask for, and answers the status. What is written of a run and a contract that are taken is a picture of the contract
-/// and of all that the run came to, in which each transaction and each event stands once. Behind `--page` it is the page of a contract, or of a
-/// run and its contracts, of which the theorems on pages speak, and each status comes exactly by its cause.
+/// Draws what the words ask for, and answers the status. What is written of files that hold a contract, or a run and its contracts, is the
+/// page of it, or behind `--svg` the rows of the run at its end. Of both the theorems on pages and their rows speak, and each status comes
+/// exactly by its cause.
 pub fn draw_tool<H: Hash32 + Drop, F: Files, S: Sink>(
     alloc: Global,
     words: &[String],
@@ -57,7 +57,7 @@ pub fn draw_tool<H: Hash32 + Drop, F: Files, S: Sink>(
     files: &mut F,
     out: &mut S,
 ) -> u8
-    ensures { DrawsOrGivesUp (H.digest_of hash) (draw_words (map string_bytes words.now))
+    ensures { Serves (H.digest_of hash) (map string_bytes words.now)
         (around (F.told files.old) (F.log files.old) (F.taken files.old) (F.faults files.old) (S.pieces out.old) (S.faults out.old))
         (around (F.told files.new) (F.log files.new) (F.taken files.new) (F.faults files.new) (S.pieces out.new) (S.faults out.new)) result }
 {

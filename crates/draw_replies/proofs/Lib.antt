@@ -1,1 +1,1 @@
-mod Pages
+mod Drawn

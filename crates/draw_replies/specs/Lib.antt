@@ -1,1 +1,1 @@
-pub mod PageAnswer
+pub mod DrawnTexts

@@ -1,8 +1,10 @@
-//! What is replied to who asks for the page of a run with its contracts, or of a contract alone.
+//! What is replied to who asks for a run with its contracts, as a page or as SVG, or for the page of a contract alone.
 #![tactic(auto)]
 
+mod form;
 mod playing;
 mod replying;
 mod writing;
 
-pub use replying::page_texts;
+pub use form::Form;
+pub use replying::drawn_texts;

@@ -1,4 +1,4 @@
-//! The page of a run that is played.
+//! A run that is played, as it is drawn.
 
 ghost use Rattle.std.specs.Prelude.{◌≡◌, ◌≤◌, length, IfOk};
 ghost use Rattle.spec_data.specs.Ranges.{most_contracts};
@@ -9,10 +9,10 @@ ghost use Rattle.spec_tool.specs.Replies.{printed};
 ghost use Rattle.bm_world.specs.Playing.{setup_in};
 ghost use Rattle.bm_report.specs.Endings.{ending_of};
 ghost use Rattle.tool_replies.specs.Whole.{IsLeft};
-ghost use Rattle.spec_page.specs.Page.{page_text};
 ghost use Rattle.draw_rows.specs.Halts.{halt_of};
-ghost use Rattle.draw_replies.specs.PageAnswer.{halt_in};
+ghost use Rattle.draw_replies.specs.DrawnTexts.{halt_in, run_drawn};
 
+use crate::form::Form;
 use crate::writing::{opened_reply, unopened_reply};
 use bm_hash::Hash32;
 use bm_report::Ending;
@@ -63,13 +63,14 @@ fn status_of(ending: &Ending) -> u8
 // What is replied to a run of these events that left this world.
 fn left_reply<H: Hash32 + Drop>(
     alloc: Global,
+    form: Form,
     title: &[u8],
     world: &World<H>,
     events: &[Event],
     stop: Option<(usize, Halt)>,
 ) -> Result<Reply, OutOfMemory>
     requires { IsLeft H.digest_of (setup_in H.digest_of world.now) events.now world.now stop }
-    ensures { IfOk result (λ reply. printed reply ≡ run_answer (page_text title.now) (setup_in H.digest_of world.now) events.now) }
+    ensures { IfOk result (λ reply. printed reply ≡ run_answer (run_drawn form title.now) (setup_in H.digest_of world.now) events.now) }
 {
     let made = translate(alloc, world)?;
     let entries = entries_by(alloc, world.trace(), &made.steps)?;
@@ -78,6 +79,7 @@ fn left_reply<H: Hash32 + Drop>(
     let halted = halted_of(end);
     opened_reply(
         alloc,
+        form,
         title,
         world.header(),
         world.contracts(),
@@ -99,9 +101,10 @@ fn copies(alloc: Global, contracts: &[Checked]) -> Result<Vec<Checked>, OutOfMem
     Ok(copies)
 }
 
-/// What is replied to a run and its contracts: the page, with the status of how the run ends.
+/// What is replied to a run and its contracts: the page or the SVG, with the status of how the run ends.
 pub(crate) fn draw_reply<H: Hash32 + Drop>(
     alloc: Global,
+    form: Form,
     title: &[u8],
     hash: H,
     run: &Run,
@@ -111,14 +114,14 @@ pub(crate) fn draw_reply<H: Hash32 + Drop>(
     requires events { length run.now.events ≤ most_events }
     requires few { length contracts.items ≤ most_contracts }
     ensures { IfOk result (λ reply. printed reply
-        ≡ run_answer (page_text title.now) (setup_of (H.digest_of hash) run.now contracts.items) run.now.events) }
+        ≡ run_answer (run_drawn form title.now) (setup_of (H.digest_of hash) run.now contracts.items) run.now.events) }
 {
     let held = copies(alloc, &contracts)?;
     match play(alloc, hash, run, contracts) {
-        Err(Halt::Collided(_, _)) => unopened_reply(alloc, title, run, &held),
+        Err(Halt::Collided(_, _)) => unopened_reply(alloc, form, title, run, &held),
         Err(_) => Err(AllocError),
         Ok((world, stop)) => {
-            let reply = left_reply(alloc, title, &world, run.events.as_slice(), stop);
+            let reply = left_reply(alloc, form, title, &world, run.events.as_slice(), stop);
             leak(world);
             reply
         }

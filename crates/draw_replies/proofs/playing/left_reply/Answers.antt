@@ -7,8 +7,8 @@ use Rattle.bm_world.specs.Playing.{setup_in}
 use Rattle.tool_replies.proofs.Left.{last_is, steps_for_each, shown_are}
 use Rattle.bm_report.specs.Entries.{entries_by}
 use Rattle.draw_rows.specs.Halts.{halt_of}
-use Rattle.draw_replies.specs.PageAnswer.{halt_in}
-use Rattle.draw_replies.proofs.Pages.{left_page}
+use Rattle.draw_replies.specs.DrawnTexts.{halt_in}
+use Rattle.draw_replies.proofs.Drawn.{left_drawn}
 use Rattle.draw_replies.proofs.playing.left_reply.Goals as goal
 
 pub entries_by-requires : goal.entries_by-requires
@@ -30,7 +30,7 @@ returns g c =
     let w = c.args.world.now in
     let s = setup_in digest w in
     subst (λ (p : Printed). IfOk c.opened_reply.result (λ reply. printed reply ≡ p))
-    (left_page s c.args.events.now c.args.title.now c.deref.result.now (halt_of c.halted_of-halted.result) c.status_of-status.result
+    (left_drawn s c.args.events.now c.args.form c.args.title.now c.deref.result.now (halt_of c.halted_of-halted.result) c.status_of-status.result
     c.header.result.now c.contracts.result.now c.requires.run.opens
     (shown_are digest s c.args.events.now w c.args.stop c.requires c.in_ok-made.made.steps c.deref.result.now c.in_ok-made.ensures.steps
     (c.deref.ensures.value ∙ c.in_ok-entries.ensures ∙ ap (λ (records : List Record). entries_by records c.in_ok-made.made.steps) c.trace.ensures.trace))

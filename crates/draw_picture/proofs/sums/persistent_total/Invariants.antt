@@ -1,6 +1,0 @@
-use Rattle.std.proofs.Common.{◌≡◌, ◌+◌, drop}
-use Rattle.spec_terms.specs.Precondition.{persistent, total_of}
-use Rattle.draw_picture.proofs.sums.persistent_total.Given as goal
-
-abbrev pub invariant-loop-entry : goal.invariant-loop-entry
-invariant-loop-entry l = l.total + total_of (persistent (drop l.entry-index l.pre)) ≡ total_of (persistent l.pre)

@@ -10,10 +10,7 @@ use bm_text::put;
 use draw_replies::Form;
 use spec_data::{MOST_TEXT_BYTES, OutOfMemory};
 use std::alloc::Global;
-use tool_command::run_files;
-
-/// The most contracts of a run.
-const MOST_CONTRACTS: usize = 16;
+use tool_command::{MOST_CONTRACTS, run_files};
 
 /// What words ask for; files go by the words that name them.
 #[derive(Drop)]

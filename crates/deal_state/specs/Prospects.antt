@@ -35,9 +35,8 @@ use Rattle.spec_chain.specs.Outputs.{is_deposit}
 use Rattle.spec_chain.specs.StateText.{string_line, height_line, waits_line, past_text}
 use Rattle.spec_chain.specs.Outstanding.{branches_from, known, height_requirements, puts_by, gone_requirements, is_false, waits_for}
 use Rattle.deal_finish.specs.Filled.{branch_of}
-use Rattle.deal_missing.specs.Required.{Required, signer_required, required, is_there}
+use Rattle.deal_missing.specs.Required.{Required, required, is_there}
 use Rattle.deal_state.specs.declared.signatures.Unverified.{Unverified}
-use Rattle.deal_state.specs.declared.signatures.Wanted.{Wanted}
 use Rattle.deal_state.specs.declared.text.Prospect.{Prospect}
 use Rattle.deal_state.specs.Lines.{prospect_text}
 
@@ -71,10 +70,6 @@ asked_by advert state = initial_if state.made ++ flat_map (branches_in advert) s
 abbrev pub is_needed_by : Which → Bool → Verb → Bool
 is_needed_by names.Init is_own verb = is_own || is_endorsement verb
 is_needed_by (names.At path) is_own verb = is_own
-
--- as the code has it
-abbrev pub wanted_in : Wanted → Required
-wanted_in w = signer_required w.transaction.now w.number w.input.now w.signer.now
 
 -- whether the transaction of this name needs it
 abbrev pub is_wanted : Which → Required → Bool

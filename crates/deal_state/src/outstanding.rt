@@ -14,12 +14,14 @@ ghost use Rattle.bm_syntax.specs.View.{guarded};
 ghost use Rattle.deal_finish.specs.Filled.{branch_of as taken_by};
 ghost use Rattle.deal_state.specs.Prospects as by;
 ghost use Rattle.deal_follow.specs.Seen.{state_in};
+ghost use Rattle.deal_missing.specs.Required as missing;
 
-use crate::signatures::{Wanted, put_signatures};
+use crate::signatures::put_signatures;
 use bm_syntax::{Guarded, puts, reveals};
 use bm_wellformed::Checked;
 use deal_finish::{branch_of, do_fit};
 use deal_follow::{Standing, transaction_named};
+use deal_missing::Wanted;
 use deal_secrets::Strings;
 use deal_signatures::Given;
 use spec_chain::{Held, Output, Requirement};
@@ -344,7 +346,7 @@ pub(crate) fn outstanding(
     which: &Which,
 ) -> Result<Vec<Requirement>, OutOfMemory>
     ensures { IfOk result (λ v. v.items
-        ≡ by.outstanding_by checked.now transactions.now (map by.wanted_in wanted.now) given.now strings.now (state_in standing.now) tip which.now) }
+        ≡ by.outstanding_by checked.now transactions.now (map missing.wanted_in wanted.now) given.now strings.now (state_in standing.now) tip which.now) }
 {
     let mut requirements = Vec::new(alloc);
     put_height(&mut requirements, transactions, tip, which)?;

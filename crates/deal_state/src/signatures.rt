@@ -2,101 +2,19 @@
 
 ghost use Rattle.std.specs.Prelude.{◌≡◌, ◌++◌, map, IfOk, OnOk};
 ghost use Rattle.spec_tool.specs.Keyed.Listed.{same_which as same};
-ghost use Rattle.spec_deal.specs.Finished.{label_party};
-ghost use Rattle.spec_deal.specs.Slots.{is_endorsement as endorses};
 ghost use Rattle.deal_missing.specs.Required as missing;
 ghost use Rattle.deal_state.specs.Prospects as by;
 
 use deal_follow::same_which;
+use deal_missing::{Wanted, is_endorsement, is_there, party_of};
 use deal_signatures::Given;
-use spec_bitcoin::Label;
 use spec_chain::Requirement;
 use spec_data::{Name, OutOfMemory};
-use spec_deal::{Input, Signer, Transaction, Verb, Wallet};
+use spec_deal::{Signer, Transaction, Verb, Wallet};
 use spec_tool::Which;
-use std::alloc::{AllocError, Global};
-
-// ---- all that are needed
-
-/// A signature that is needed: of this input, counted from 0, of the transaction, by whom.
-#[derive(Clone, Copy)]
-pub(crate) struct Wanted<'a> {
-    pub(crate) transaction: &'a Transaction,
-    pub(crate) number: u32,
-    pub(crate) input: &'a Input,
-    pub(crate) signer: &'a Signer,
-}
-
-// A number of 32 bits; a greater one is taken for lack of memory.
-fn narrow(number: usize) -> Result<u32, OutOfMemory>
-    ensures { IfOk result (λ n. n ≡ number) }
-{
-    if number > u32::MAX as usize {
-        return Err(AllocError);
-    }
-    Ok(number as u32)
-}
-
-// Those of an input.
-fn put_signers<'a>(
-    all: &mut Vec<Wanted<'a>>,
-    transaction: &'a Transaction,
-    number: u32,
-    input: &'a Input,
-) -> Result<(), OutOfMemory>
-    ensures { OnOk result (map by.wanted_in all.new.items
-        ≡ map by.wanted_in all.old.items ++ missing.input_required transaction.now number input.now) }
-{
-    for signer in input.signers.as_slice() {
-        all.push(Wanted {
-            transaction,
-            number,
-            input,
-            signer,
-        })?;
-    }
-    Ok(())
-}
-
-// Those of a transaction.
-fn put_transaction<'a>(
-    all: &mut Vec<Wanted<'a>>,
-    transaction: &'a Transaction,
-) -> Result<(), OutOfMemory>
-    ensures { OnOk result (map by.wanted_in all.new.items
-        ≡ map by.wanted_in all.old.items ++ missing.transaction_required transaction.now) }
-{
-    for (number, input) in transaction.inputs.as_slice().iter().enumerate() {
-        put_signers(all, transaction, narrow(number)?, input)?;
-    }
-    Ok(())
-}
-
-/// The signatures that all these transactions need, in order.
-pub(crate) fn all_wanted(
-    alloc: Global,
-    transactions: &[Transaction],
-) -> Result<Vec<Wanted<'_>>, OutOfMemory>
-    ensures { IfOk result (λ v. map by.wanted_in v.items ≡ missing.required transactions.now) }
-{
-    let mut all = Vec::new(alloc);
-    for transaction in transactions {
-        put_transaction(&mut all, transaction)?;
-    }
-    Ok(all)
-}
+use std::alloc::Global;
 
 // ---- for the transaction of a name
-
-fn is_endorsement(verb: Verb) -> bool
-    ensures { result ≡ endorses verb }
-{
-    match verb {
-        Verb::Endorse => true,
-        Verb::Authorise => false,
-        Verb::Init => false,
-    }
-}
 
 // Whether a transaction needs a signature, by whether it is of the transaction itself, and by what it is for.
 fn is_needed(which: &Which, is_own: bool, verb: Verb) -> bool
@@ -117,35 +35,13 @@ fn is_named(transaction: &Transaction, which: &Which) -> bool
 
 // Whether the transaction of this name needs it.
 fn is_wanted(which: &Which, wanted: &Wanted) -> bool
-    ensures { result ≡ by.is_wanted which.now (by.wanted_in wanted.now) }
+    ensures { result ≡ by.is_wanted which.now (missing.wanted_in wanted.now) }
 {
     let is_own = is_named(wanted.transaction, which);
     is_needed(which, is_own, wanted.signer.verb)
 }
 
-// Whether the signature, or a wallet's witness, is there.
-fn is_there(alloc: Global, given: &Given, wanted: &Wanted) -> Result<bool, OutOfMemory>
-    ensures { IfOk result (λ b. b ≡ missing.is_there given.now (by.wanted_in wanted.now)) }
-{
-    let bytes = wanted.transaction.bytes.as_slice();
-    Ok(
-        given
-            .signature(alloc, bytes, wanted.number, &wanted.signer.key)?
-            .is_some(),
-    )
-}
-
 // ---- those that are missing
-
-/// Whose key a label names.
-pub(crate) fn party_of(label: &Label) -> &Name
-    ensures { result.now ≡ label_party label.now }
-{
-    match label {
-        Label::Deposit { party } => party,
-        Label::Branch { party, .. } => party,
-    }
-}
 
 // What is missing: the signature by the key of its label, or the witness of its wallet.
 fn requirement_of(
@@ -175,7 +71,7 @@ fn put_if_missing(
     given: &Given,
     wanted: &Wanted,
 ) -> Result<(), OutOfMemory>
-    ensures { OnOk result (requirements.new.items ≡ requirements.old.items ++ by.requirement_if_missing given.now (by.wanted_in wanted.now)) }
+    ensures { OnOk result (requirements.new.items ≡ requirements.old.items ++ by.requirement_if_missing given.now (missing.wanted_in wanted.now)) }
 {
     if is_there(alloc, given, wanted)? {
         return Ok(());
@@ -195,7 +91,7 @@ pub(crate) fn put_signatures(
     which: &Which,
     all: &[Wanted],
 ) -> Result<(), OutOfMemory>
-    ensures { OnOk result (requirements.new.items ≡ requirements.old.items ++ by.signatures_by given.now which.now (map by.wanted_in all.now)) }
+    ensures { OnOk result (requirements.new.items ≡ requirements.old.items ++ by.signatures_by given.now which.now (map missing.wanted_in all.now)) }
 {
     for wanted in all {
         if is_wanted(which, wanted) {
@@ -224,7 +120,7 @@ fn put_if_unverified(
     given: &Given,
     wanted: &Wanted,
 ) -> Result<(), OutOfMemory>
-    ensures { OnOk result (unverified.new.items ≡ unverified.old.items ++ by.unverified_if_there given.now (by.wanted_in wanted.now)) }
+    ensures { OnOk result (unverified.new.items ≡ unverified.old.items ++ by.unverified_if_there given.now (missing.wanted_in wanted.now)) }
 {
     let Some(wallet) = &wanted.input.wallet else {
         return Ok(());
@@ -248,7 +144,7 @@ pub(crate) fn all_unverified(
     which: &Which,
     all: &[Wanted],
 ) -> Result<Vec<Unverified>, OutOfMemory>
-    ensures { IfOk result (λ v. v.items ≡ by.unverified_by given.now which.now (map by.wanted_in all.now)) }
+    ensures { IfOk result (λ v. v.items ≡ by.unverified_by given.now which.now (map missing.wanted_in all.now)) }
 {
     let mut unverified = Vec::new(alloc);
     for wanted in all {

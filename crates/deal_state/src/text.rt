@@ -12,15 +12,17 @@ ghost use Rattle.spec_chain.specs.StateText as spec;
 ghost use Rattle.spec_chain.specs.Outstanding as required;
 ghost use Rattle.deal_state.specs.Prospects as by;
 ghost use Rattle.deal_follow.specs.Seen.{happened_in, state_in, course_in};
+ghost use Rattle.deal_missing.specs.Required as missing;
 
 use crate::asked::asked;
 use crate::lines::{
     put_event, put_height, put_live, put_paid, put_prospect, put_string, put_waits,
 };
 use crate::outstanding::outstanding;
-use crate::signatures::{Unverified, Wanted, all_unverified, all_wanted, party_of};
+use crate::signatures::{Unverified, all_unverified};
 use bm_wellformed::Checked;
 use deal_follow::{Course, Event, Standing};
+use deal_missing::{Wanted, all_requirements, party_of};
 use deal_secrets::{Strings, known};
 use deal_signatures::Given;
 use spec_chain::{Output, Requirement};
@@ -108,7 +110,7 @@ fn prospect_of(
     tip: u32,
     which: &Which,
 ) -> Result<Prospect, OutOfMemory>
-    ensures { IfOk result (λ p. by.prospect_in p ≡ by.chance_of checked.now transactions.now (map by.wanted_in wanted.now) given.now
+    ensures { IfOk result (λ p. by.prospect_in p ≡ by.chance_of checked.now transactions.now (map missing.wanted_in wanted.now) given.now
         strings.now (state_in standing.now) tip which.now) }
 {
     let requirements = outstanding(
@@ -144,7 +146,7 @@ fn prospects(
     asked: &[Which],
 ) -> Result<Vec<Prospect>, OutOfMemory>
     ensures { IfOk result (λ v. map by.prospect_in v.items
-        ≡ by.prospects_by checked.now transactions.now (map by.wanted_in wanted.now) given.now strings.now (state_in standing.now) tip asked.now) }
+        ≡ by.prospects_by checked.now transactions.now (map missing.wanted_in wanted.now) given.now strings.now (state_in standing.now) tip asked.now) }
 {
     let mut all = Vec::new(alloc);
     for which in asked {
@@ -340,7 +342,7 @@ fn text_by(
     let standing = &course.standing;
     let all = known(alloc, &standing.shown, strings)?;
     let asked = asked(alloc, checked, standing)?;
-    let wanted = all_wanted(alloc, transactions)?;
+    let wanted = all_requirements(alloc, transactions)?;
     let prospects = prospects(
         alloc,
         checked,

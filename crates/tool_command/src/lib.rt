@@ -21,4 +21,4 @@ pub use error::{ContractsError, JudgeError};
 pub use files::{files_of, run_files};
 pub use replies::{check_reply, contract_refused, run_refused};
 pub use run::run_in;
-pub use words::command_of;
+pub use words::{MOST_CONTRACTS, command_of};

@@ -11,7 +11,7 @@ use std::alloc::Global;
 use tool_which::which_of;
 
 /// The most contracts of a run.
-const MOST_CONTRACTS: usize = 16;
+pub const MOST_CONTRACTS: usize = 16;
 
 /// The greatest size of a generated run.
 const MOST_SIZE: u64 = 30;

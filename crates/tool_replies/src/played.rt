@@ -2,8 +2,6 @@
 
 ghost use Rattle.std.specs.Prelude.{◌≤◌, length, IfOk, IfErr};
 ghost use Rattle.spec_data.specs.Ranges.{most_contracts};
-ghost use Rattle.std.specs.List.{AllByRecursion};
-ghost use Rattle.spec_terms.specs.Faults.{IsWellFormed};
 ghost use Rattle.spec_run.specs.Conditions.{IsSetup};
 ghost use Rattle.spec_text.specs.Limits.{most_events};
 ghost use Rattle.theory_text.specs.RunFiles.{IsReadRun};
@@ -12,7 +10,7 @@ ghost use Rattle.tool_replies.specs.Whole.{IsLeft};
 ghost use Rattle.bm_world.specs.Starting.{Opens, Unopened};
 
 use crate::events::play_events;
-use bm_hash::{Hash32, hashes_bytes};
+use bm_hash::Hash32;
 use bm_wellformed::Checked;
 use bm_world::{Halt, World};
 use spec_data::OutOfMemory;
@@ -36,15 +34,6 @@ fn play_opened<H: Hash32 + Drop>(
     Ok((world, stop))
 }
 
-// Each of the contracts is checked.
-fn look_at(contracts: &[Checked])
-    ensures { AllByRecursion IsWellFormed contracts.now }
-{
-    for contract in contracts {
-        let _advert = contract.advert();
-    }
-}
-
 /// Plays the events of a run with contracts, from its opening on up to the first that is halted: the world that they leave, and the
 /// number of the event that was halted, counted from 0, with what halted it. A run that doesn't open is answered by what halts it.
 pub fn play<H: Hash32 + Drop>(
@@ -59,9 +48,8 @@ pub fn play<H: Hash32 + Drop>(
     ensures left { IfOk result (λ p. IsLeft H.digest_of (setup_of (H.digest_of hash) run.now contracts.items) run.now.events p.0 p.1) }
     ensures unopened { IfErr result (Unopened (setup_of (H.digest_of hash) run.now contracts.items)) }
 {
-    hashes_bytes(&hash);
-    look_at(contracts.as_slice());
     let world = World::start(alloc, &run.header, contracts, hash)?;
+    let _board = world.board();
     match play_opened(world, run) {
         Ok(played) => Ok(played),
         Err(_) => Err(Halt::Memory),

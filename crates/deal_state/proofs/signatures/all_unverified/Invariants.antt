@@ -1,5 +1,6 @@
 use Rattle.std.proofs.Common.{◌≡◌, ◌++◌, map, drop}
-use Rattle.deal_state.specs.Prospects.{wanted_in, unverified_by}
+use Rattle.deal_missing.specs.Required.{wanted_in}
+use Rattle.deal_state.specs.Prospects.{unverified_by}
 use Rattle.deal_state.proofs.signatures.all_unverified.Given as goal
 
 abbrev pub invariant-loop-wanted : goal.invariant-loop-wanted

@@ -1,5 +1,6 @@
 use Rattle.std.proofs.Common.{◌≡◌, ◌++◌, map, drop}
-use Rattle.deal_state.specs.Prospects.{wanted_in, signatures_by}
+use Rattle.deal_missing.specs.Required.{wanted_in}
+use Rattle.deal_state.specs.Prospects.{signatures_by}
 use Rattle.deal_state.proofs.signatures.put_signatures.Given as goal
 
 abbrev pub invariant-loop-wanted : goal.invariant-loop-wanted

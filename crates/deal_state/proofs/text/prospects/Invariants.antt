@@ -1,6 +1,7 @@
 use Rattle.std.proofs.Common.{◌≡◌, ◌++◌, map, drop}
 use Rattle.deal_follow.specs.Seen.{state_in}
-use Rattle.deal_state.specs.Prospects.{wanted_in, prospect_in, prospects_by}
+use Rattle.deal_missing.specs.Required.{wanted_in}
+use Rattle.deal_state.specs.Prospects.{prospect_in, prospects_by}
 use Rattle.deal_state.proofs.text.prospects.Given as goal
 
 abbrev pub invariant-loop-which : goal.invariant-loop-which

@@ -1,10 +1,10 @@
 use Rattle.std.proofs.Common.{ℕ, List, ◌++◌, map, ap, ◌∙◌}
 use Rattle.spec_terms.specs.Parties.{participants}
 use Rattle.spec_deal.specs.declared.entry.Shown.{Shown}
-use Rattle.deal_missing.specs.Required.{Required, required}
+use Rattle.deal_missing.specs.Required.{Required, required, wanted_in}
 use Rattle.deal_secrets.specs.Seen.{shown_by}
 use Rattle.deal_follow.specs.Seen.{course_in, state_in}
-use Rattle.deal_state.specs.Prospects.{Chance, wanted_in, prospect_in, prospects_by, state_by, asked_by}
+use Rattle.deal_state.specs.Prospects.{Chance, prospect_in, prospects_by, state_by, asked_by}
 use Rattle.deal_state.proofs.text.text_by.Goals as goal
 
 pub returns : goal.returns

@@ -25,6 +25,7 @@ use Rattle.spec_page.specs.Statements.{RowsShowBranches, AllRowsHoldEvents, Mone
 use Rattle.theory_script.specs.Listed.{PathsInOrder}
 use Rattle.theory_page.specs.Ids.{IdsStandOnce, SvgIdsStandOnce}
 use Rattle.theory_page.specs.Shows.{RowsShowLooks, FoldsHaveMoments}
+use Rattle.theory_page.specs.SvgTells.{SvgTellsAll}
 use Rattle.theory_page.specs.Tells.{LinesTellTurns}
 use Rattle.theory_commands.specs.Causes.{CausesInFiles, HoldAll}
 use Rattle.theory_commands.specs.ContractFiles.{ContractsAreRead}
@@ -49,6 +50,7 @@ pub record Theorems : Type 0 where
   pub formed : PagesAreWellFormed
   pub svgs : SvgsAreWellFormed
   pub apart : TextsStandApart
+  pub tells : SvgTellsAll
   pub ids : IdsStandOnce
   pub svg_ids : SvgIdsStandOnce
   pub safe : TextsAreSafe
@@ -119,6 +121,7 @@ module _ (t : Theorems) where
     once = t.svg_ids.once s es well contracts few;
     safe = t.safe;
     apart = t.apart (picture s es);
+    tells = t.tells;
     rows = shows_rows s es run;
   }
 

@@ -28,6 +28,7 @@ use Rattle.spec_page.specs.Ways.{way_rows}
 use Rattle.theory_script.specs.Listed.{are_once}
 use Rattle.theory_page.specs.Ids.{ids_in, page_ids, svg_ids}
 use Rattle.theory_page.specs.Shows.{ShowContracts}
+use Rattle.theory_page.specs.SvgTells.{SvgTellsAll}
 use Rattle.theory_page.specs.Tells.{LinesTellTurns}
 use Rattle.theory_commands.specs.Causes.{HoldAll}
 use Rattle.theory_commands.specs.ContractFiles.{HoldsContract}
@@ -93,6 +94,8 @@ pub record ShowsSvg (title : List ℕ) (s : Setup) (es : List Event) (text : Lis
   pub safe : TextsAreSafe
   -- none meets another, or leaves the drawing
   pub apart : StandsApart (drawing (picture s es))
+  -- each text of the rows stands at one place, and nothing else does
+  pub tells : SvgTellsAll
   pub rows : ShowsRows s es
 
 -- ---- files

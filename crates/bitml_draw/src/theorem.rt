@@ -10,6 +10,7 @@ ghost use Rattle.theory_commands.specs.RunFiles.{RunFilesAreRead};
 ghost use Rattle.theory_script.specs.Listed.{PathsInOrder};
 ghost use Rattle.theory_page.specs.Ids.{IdsStandOnce, SvgIdsStandOnce};
 ghost use Rattle.theory_page.specs.Shows.{RowsShowLooks, FoldsHaveMoments};
+ghost use Rattle.theory_page.specs.SvgTells.{SvgTellsAll};
 ghost use Rattle.theory_page.specs.Tells.{LinesTellTurns};
 ghost use Rattle.bitml_draw.specs.Drawn.{DrawsAll};
 
@@ -19,7 +20,7 @@ use theory_commands::{
 use theory_page::{
     folds_have_moments, ids_stand_once, lines_tell_turns, money_is_whole, pages_are_well_formed,
     rows_are_whole, rows_hold_events, rows_show_branches, rows_show_looks, svg_ids_stand_once,
-    svgs_are_well_formed, texts_are_safe, texts_stand_apart,
+    svg_tells_all, svgs_are_well_formed, texts_are_safe, texts_stand_apart,
 };
 use theory_script::paths_in_order;
 use theory_tool::valid_runs;
@@ -35,6 +36,7 @@ fn by_theorems()
     requires formed { PagesAreWellFormed }
     requires svgs { SvgsAreWellFormed }
     requires apart { TextsStandApart }
+    requires tells { SvgTellsAll }
     requires ids { IdsStandOnce }
     requires svg_ids { SvgIdsStandOnce }
     requires safe { TextsAreSafe }
@@ -62,6 +64,7 @@ pub(crate) fn answers_draw_all()
     pages_are_well_formed();
     svgs_are_well_formed();
     texts_stand_apart();
+    svg_tells_all();
     ids_stand_once();
     svg_ids_stand_once();
     texts_are_safe();

@@ -12,6 +12,7 @@ returns c = draws_all (record {
   formed = c.requires.formed;
   svgs = c.requires.svgs;
   apart = c.requires.apart;
+  tells = c.requires.tells;
   ids = c.requires.ids;
   svg_ids = c.requires.svg_ids;
   safe = c.requires.safe;

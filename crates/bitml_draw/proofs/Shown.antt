@@ -24,6 +24,7 @@ use Rattle.spec_page.specs.Statements.{PagesAreWellFormed, SvgsAreWellFormed, Te
 use Rattle.spec_page.specs.Statements.{RowsShowBranches, AllRowsHoldEvents, MoneyIsWhole, RowsAreWhole}
 use Rattle.theory_script.specs.Listed.{PathsInOrder}
 use Rattle.theory_page.specs.Ids.{IdsStandOnce, SvgIdsStandOnce}
+use Rattle.theory_page.specs.Outcomes.{RowsLookSo}
 use Rattle.theory_page.specs.Shows.{RowsShowLooks, FoldsHaveMoments}
 use Rattle.theory_page.specs.SvgTells.{SvgTellsAll}
 use Rattle.theory_page.specs.Tells.{LinesTellTurns}
@@ -57,6 +58,7 @@ pub record Theorems : Type 0 where
   pub branches : RowsShowBranches
   pub events : AllRowsHoldEvents
   pub lines : LinesTellTurns
+  pub outcomes : RowsLookSo
   pub looks : RowsShowLooks
   pub moments : FoldsHaveMoments
   pub sums : RowsAreWhole
@@ -97,6 +99,7 @@ module _ (t : Theorems) where
     branches = shows_branches;
     events = t.events (first_moment s) ((course s es).turns);
     lines = t.lines;
+    outcomes = t.outcomes s es;
     looks = t.looks s es;
     moments = t.moments (first_moment s) ((course s es).turns);
     sums = λ opens. t.sums s es (run opens);

@@ -1,5 +1,5 @@
 -- What is known of what is drawn.
-use Rattle.std.specs.Prelude.{◌≡◌, ℕ, ◌≤◌, List, [], ◌∷◌, length, map, take, true, Some, None}
+use Rattle.std.specs.Prelude.{◌≡◌, ℕ, ◌≤◌, List, [], ◌∷◌, length, map, take, true, ◌⊎◌, Some, None}
 use Rattle.std.specs.List.{AllByRecursion}
 use Rattle.spec_data.specs.Lists.{are_different}
 use Rattle.spec_data.specs.Ranges.{most_contracts}
@@ -27,6 +27,7 @@ use Rattle.spec_page.specs.SvgLayout.{drawing}
 use Rattle.spec_page.specs.Ways.{way_rows}
 use Rattle.theory_script.specs.Listed.{are_once}
 use Rattle.theory_page.specs.Ids.{ids_in, page_ids, svg_ids}
+use Rattle.theory_page.specs.Outcomes.{IsOfEvents, IsOfNone}
 use Rattle.theory_page.specs.Shows.{ShowContracts}
 use Rattle.theory_page.specs.SvgTells.{SvgTellsAll}
 use Rattle.theory_page.specs.Tells.{LinesTellTurns}
@@ -51,6 +52,8 @@ pub record ShowsRows (s : Setup) (es : List Event) : Type 0 where
   pub events : RowsHoldEvents (first_moment s) ((course s es).turns)
   -- equal lines are of equal events with equal outcomes
   pub lines : LinesTellTurns
+  -- each row of events looks as the last of them came out
+  pub outcomes : AllByRecursion (λ st. IsOfEvents ((course s es).turns) st.row ⊎ IsOfNone st.row.look) (stops s es)
   -- in each row each part of a contract has the look that it has then
   pub looks : AllByRecursion (λ st. ShowContracts st.row.looks st.moment 0 0 s.contracts) (stops s es)
   -- which is what the events up to the row's last one left

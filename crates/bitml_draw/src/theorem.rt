@@ -9,6 +9,7 @@ ghost use Rattle.theory_commands.specs.Refused.{FilesAreJudged};
 ghost use Rattle.theory_commands.specs.RunFiles.{RunFilesAreRead};
 ghost use Rattle.theory_script.specs.Listed.{PathsInOrder};
 ghost use Rattle.theory_page.specs.Ids.{IdsStandOnce, SvgIdsStandOnce};
+ghost use Rattle.theory_page.specs.Outcomes.{RowsLookSo};
 ghost use Rattle.theory_page.specs.Shows.{RowsShowLooks, FoldsHaveMoments};
 ghost use Rattle.theory_page.specs.SvgTells.{SvgTellsAll};
 ghost use Rattle.theory_page.specs.Tells.{LinesTellTurns};
@@ -19,8 +20,8 @@ use theory_commands::{
 };
 use theory_page::{
     folds_have_moments, ids_stand_once, lines_tell_turns, money_is_whole, pages_are_well_formed,
-    rows_are_whole, rows_hold_events, rows_show_branches, rows_show_looks, svg_ids_stand_once,
-    svg_tells_all, svgs_are_well_formed, texts_are_safe, texts_stand_apart,
+    rows_are_whole, rows_hold_events, rows_look_so, rows_show_branches, rows_show_looks,
+    svg_ids_stand_once, svg_tells_all, svgs_are_well_formed, texts_are_safe, texts_stand_apart,
 };
 use theory_script::paths_in_order;
 use theory_tool::valid_runs;
@@ -43,6 +44,7 @@ fn by_theorems()
     requires branches { RowsShowBranches }
     requires events { AllRowsHoldEvents }
     requires lines { LinesTellTurns }
+    requires outcomes { RowsLookSo }
     requires looks { RowsShowLooks }
     requires moments { FoldsHaveMoments }
     requires sums { RowsAreWhole }
@@ -71,6 +73,7 @@ pub(crate) fn answers_draw_all()
     rows_show_branches();
     rows_hold_events();
     lines_tell_turns();
+    rows_look_so();
     rows_show_looks();
     folds_have_moments();
     rows_are_whole();

@@ -13,7 +13,7 @@ last_more : (m : Moment) (ts : List Turn) (t : Turn) → last_moment m (ts ++ t 
 last_more m [] t = refl
 last_more m (x ∷ xs) t = last_more (after_turn m x) xs t
 
-taken_all : (xs ys : List Turn) → take (length xs) (xs ++ ys) ≡ xs
+pub taken_all : (xs ys : List Turn) → take (length xs) (xs ++ ys) ≡ xs
 taken_all [] ys = refl
 taken_all (x ∷ xs) ys = ap (λ (zs : List Turn). x ∷ zs) (taken_all xs ys)
 
@@ -32,7 +32,7 @@ module _ (m : Moment) where
       (ap (λ (n : ℕ). last_moment m (take n (done ++ rest))) (sym e)
       ∙ ap (λ (ts : List Turn). last_moment m ts) (taken_all done rest))
 
-  next_length : (done : List Turn) (t : Turn) (n : ℕ) → length done ≡ n → length (done ++ t ∷ []) ≡ n + 1
+  pub next_length : (done : List Turn) (t : Turn) (n : ℕ) → length done ≡ n → length (done ++ t ∷ []) ≡ n + 1
   next_length done t n e = let l : length (done ++ t ∷ []) ≡ length done + 1 = length-append done (t ∷ []) in omega (arith, l, e)
 
   next_left : (done : List Turn) (t : Turn) (before : Moment) → before ≡ last_moment m done

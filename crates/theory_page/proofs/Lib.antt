@@ -11,6 +11,7 @@ mod Runs
 mod Told
 mod Numbered
 mod Left
+mod Looked
 mod Ids
 mod Once
 mod Small

@@ -3,6 +3,7 @@
 
 ghost use Rattle.spec_page.specs.Statements.{PagesAreWellFormed, SvgsAreWellFormed, TextsStandApart, TextsAreSafe, RowsShowBranches, AllRowsHoldEvents, MoneyIsWhole, RowsAreWhole};
 ghost use Rattle.theory_page.specs.Ids.{IdsStandOnce, SvgIdsStandOnce};
+ghost use Rattle.theory_page.specs.Outcomes.{RowsLookSo};
 ghost use Rattle.theory_page.specs.Shows.{RowsShowLooks, FoldsHaveMoments};
 ghost use Rattle.theory_page.specs.SvgTells.{SvgTellsAll};
 ghost use Rattle.theory_page.specs.Tells.{LinesTellTurns};
@@ -96,4 +97,9 @@ pub fn rows_show_looks()
 /// The moment of each row is what the events up to its last one left.
 pub fn folds_have_moments()
     ensures { FoldsHaveMoments }
+{}
+
+/// Each row of a run that is of events looks as the last of them came out: done, accepted or refused.
+pub fn rows_look_so()
+    ensures { RowsLookSo }
 {}

@@ -19,6 +19,7 @@ returns c = draws_all (record {
   branches = c.requires.branches;
   events = c.requires.events;
   lines = c.requires.lines;
+  outcomes = c.requires.outcomes;
   looks = c.requires.looks;
   moments = c.requires.moments;
   sums = c.requires.sums;

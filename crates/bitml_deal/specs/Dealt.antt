@@ -265,7 +265,7 @@ pub record FollowsChains : Type 0 where
   pub once : RevealedOnce
   -- what has nothing to do with the deal may stand anywhere in the chain or be left out
   pub aside : AsideAnywhere
-  -- however much of it, and no strings collide that didn't
+  -- any of it may be left out, or come in where then no two strings collide
   pub asides : AsidesLeftOut
   -- what ledgers have of the deal is what is live, transaction by transaction, and a chain whose transactions they take stands
   pub ledgers : LedgersFollow

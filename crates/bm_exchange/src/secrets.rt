@@ -5,19 +5,14 @@ ghost use Rattle.std.specs.Str.{bytes_eq};
 ghost use Rattle.spec_run.specs.Setup.{held_among};
 ghost use Rattle.spec_run.specs.Committing as committing;
 
-use spec_data::Name;
+use spec_data::{LEAST_SECRET_BYTES, MOST_ITEM_BYTES, Name};
 use spec_run::HeldSecret;
-
-// The fewest bytes of a secret, and the most.
-const LEAST_BYTES: usize = 16;
-
-const MOST_BYTES: usize = 520;
 
 /// Whether the bytes have the size of a secret.
 pub fn is_secret_long(bytes: &[u8]) -> bool
     ensures { result ≡ committing.is_secret_long bytes.now }
 {
-    LEAST_BYTES <= bytes.len() && bytes.len() <= MOST_BYTES
+    LEAST_SECRET_BYTES <= bytes.len() && bytes.len() <= MOST_ITEM_BYTES
 }
 
 // Whether it is the party's secret of this name. Of many secrets few have the name, and most are the party's.

@@ -9,12 +9,10 @@ use crate::running::run_ops;
 use crate::top_first::Stack;
 use bm_hash::Hash32;
 use bm_ops::{Op, ScriptError, decode_script};
-use spec_data::{Bytes, OutOfMemory};
+use spec_data::{Bytes, MOST_ITEM_BYTES, OutOfMemory};
 use std::alloc::{AllocError, Global};
 
-// The bytes of an item that is pushed, and the operations of a script that count, by Bitcoin's consensus.
-const MOST_ITEM_BYTES: usize = 520;
-
+// The operations of a script that count, by Bitcoin's consensus.
 const MOST_OPERATIONS: usize = 201;
 
 fn is_short(op: &Op) -> bool

@@ -15,7 +15,7 @@ use bm_book::Book;
 use bm_hash::Hash32;
 use bm_interp::eval;
 use spec_bitcoin::{Refusal, TxIn, TxOut};
-use spec_data::{Bytes, OutOfMemory};
+use spec_data::{Bytes, MOST_ITEM_BYTES, OutOfMemory};
 use std::alloc::Global;
 
 // The hash that an output pays to.
@@ -51,7 +51,9 @@ fn items_of(witness: &[Bytes]) -> &[Bytes]
 fn has_long(items: &[Bytes]) -> bool
     ensures { result ≡ list_any spec.is_long items.now }
 {
-    items.iter().any(|item| item.as_slice().len() > 520)
+    items
+        .iter()
+        .any(|item| item.as_slice().len() > MOST_ITEM_BYTES)
 }
 
 // What is wrong with input k, which has no witness.

@@ -6,6 +6,7 @@ ghost use Rattle.bm_pred.specs.Within.{BoundsEveryValue};
 ghost use Rattle.bm_syntax.specs.View.{formula, test};
 
 use bm_syntax::{Expr, Pred};
+use spec_data::MOST_ITEM_BYTES;
 
 /// The greatest number that `bound` and `cost` answer.
 pub const MOST: u64 = 1 << 63;
@@ -13,7 +14,7 @@ pub const MOST: u64 = 1 << 63;
 /// The greatest bound that an expression may have: its values then fit in the four bytes of an operand of Bitcoin script.
 pub const GREATEST_BOUND: u64 = 2_147_483_647;
 
-/// The most that the value of the expression can be away from 0, where no length exceeds 520; held at `MOST` where it would be greater.
+/// The most that the value of the expression can be away from 0, where no length exceeds that of an item; held at `MOST` where it would be greater.
 #[tactic(auto, using(crate::proofs::Far::bounds_values))]
 pub fn bound(expr: &Expr) -> u64
     ensures exact { result ≡ spec.held (spec.bound (formula expr.now)) }
@@ -27,7 +28,7 @@ fn held_bound(expr: &Expr) -> u64
 {
     match expr {
         Expr::Const(n) => u64::from(*n),
-        Expr::Length(_) => 520,
+        Expr::Length(_) => MOST_ITEM_BYTES as u64,
         Expr::Plus(a, b) => held_bound(a).saturating_add(held_bound(b)).min(MOST),
         Expr::Minus(a, b) => held_bound(a).saturating_add(held_bound(b)).min(MOST),
     }

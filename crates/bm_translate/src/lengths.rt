@@ -7,7 +7,7 @@ ghost use Rattle.bm_translate.specs.Lengths as spec;
 use bm_exchange::{Exchange, held_secret, is_secret_long};
 use bm_hash::{Hash32, Trail};
 use bm_world_board::is_name_among;
-use spec_data::{Name, OutOfMemory, Seq};
+use spec_data::{LEAST_SECRET_BYTES, Name, OutOfMemory, Seq};
 use spec_run::{Header, HeldSecret};
 use std::alloc::Global;
 
@@ -18,7 +18,7 @@ fn long_size(bytes: &[u8]) -> Option<u32>
     if !is_secret_long(bytes) {
         return None;
     }
-    Some((bytes.len() - 16) as u32)
+    Some((bytes.len() - LEAST_SECRET_BYTES) as u32)
 }
 
 // The length of an honest party's secret.

@@ -1,21 +1,19 @@
 -- What the transactions that are fired are to the contracts.
-use Rattle.std.proofs.Common.{◌≡◌, ℕ, zero, suc, ◌+◌, List, [], ◌∷◌, length, map, drop, Bool, true, false, Option, Some, None, refl, sym, ap, ◌∙◌, subst, arith, cond, inl}
-use Rattle.std.specs.Prelude.{slice_get, is_some, if◌then◌else◌}
+use Rattle.std.proofs.Common.{◌≡◌, ℕ, List, [], ◌∷◌, length, drop, Bool, true, false, Option, Some, None, refl, sym, ap, ◌∙◌, subst}
+use Rattle.std.specs.Prelude.{slice_get, if◌then◌else◌}
 use Rattle.std.specs.Option.{option_map_or}
 use Rattle.spec_terms.specs.Term as term
 use Rattle.spec_terms.specs.Term.{branches}
 use Rattle.spec_terms.specs.Core.{core, reveals_of}
-use Rattle.spec_terms.specs.Precondition.{Holding, persistent}
-use Rattle.spec_bitcoin.specs.declared.tx.TxIn.{TxIn}
+use Rattle.spec_terms.specs.Precondition.{persistent}
 use Rattle.spec_bitcoin.specs.declared.tx.TxOut.{TxOut}
 use Rattle.spec_bitcoin.specs.declared.tx.Tx.{Tx}
-use Rattle.spec_bitcoin.specs.Live.{at_place, same_outpoint}
+use Rattle.spec_bitcoin.specs.Live.{at_place}
 use Rattle.spec_bitcoin.specs.Verdict.{spent_number}
 use Rattle.spec_calculus.specs.Configuration.{Configuration}
-use Rattle.spec_compiler.specs.declared.unsigned.Spent.{Spent}
 use Rattle.spec_compiler.specs.declared.unsigned.Unsigned.{Unsigned}
 use Rattle.spec_compiler.specs.Instance.{Instance}
-use Rattle.spec_compiler.specs.Transactions.{input_of, tx_of, prepared, deposit, branch_unsigned, initial_unsigned}
+use Rattle.spec_compiler.specs.Transactions.{input_of, tx_of, prepared, branch_unsigned, initial_unsigned}
 use Rattle.spec_compiler.specs.Witness.{chosen_by}
 use Rattle.spec_run.specs.Setup.{Setup}
 use Rattle.spec_run.specs.World.{ContractPosition, Output, World, live_position, live_position_at}
@@ -23,20 +21,17 @@ use Rattle.spec_run.specs.Compiled.{compiled_instance}
 use Rattle.spec_run.specs.Conditions.{IsSetup}
 use Rattle.spec_run.specs.Firing.{initial_witnesses, initial_transaction, branch_signatures, shown_strings, script_of_position, branch_witness, taking_witnesses, taking_transaction, taking_of_position}
 use Rattle.spec_run.specs.Signing.{first_digest}
-use Rattle.spec_run.specs.Ledger.{live_from, tx_out, Begins, Takes, kind_by, kind_of, first_position, initial_of, branch_count, branch_holds, position_path, position_branch}
-use Rattle.theory_bitcoin.specs.Apart.{bare_input, bare}
-use Rattle.theory_calculus.specs.Members.{Is_in}
+use Rattle.spec_run.specs.Ledger.{live_from, Begins, Takes, kind_by, kind_of, first_position, initial_of, branch_count, branch_holds, position_path, position_branch}
+use Rattle.theory_bitcoin.specs.Apart.{bare}
 use Rattle.theory_calculus.proofs.Names.{persistent_deposit}
 use Rattle.theory_script.proofs.Scripts.Choosing.{witness_chooses}
-use Rattle.theory_world.proofs.Same.{place-true, place_refl}
-use Rattle.theory_world.proofs.Ledger.Found.{found}
-use Rattle.theory_world.proofs.Ledger.Acceptable.{with-bare}
+use Rattle.theory_world.proofs.Ledger.Acceptable.{live_entry, with-bare}
 use Rattle.theory_run.specs.KeptRuns.{KeptBooks}
 use Rattle.theory_run.specs.KeptBook.{HeldFine}
 use Rattle.theory_run.proofs.Facts.Bookkeeping.{checks}
 use Rattle.theory_run.proofs.Facts.OnePosition.{one_initial}
 use Rattle.theory_run.proofs.Accepted.Kinded.{counted}
-use Rattle.theory_run.proofs.Accepted.WhatItIs.{initial_is, not_initial, at_bound}
+use Rattle.theory_run.proofs.Accepted.WhatItIs.{initial_is, not_initial, at_bound, first_persistent}
 use Rattle.theory_run.proofs.Events.Quiet.{IsActive, active}
 use Rattle.bm_world_coins.specs.Coined.{position_by}
 use Rattle.bm_world_board.specs.declared.pending_change.Purpose.{Purpose}
@@ -46,25 +41,6 @@ use Rattle.bm_world_fire.specs.Standing.{IsStanding}
 use Rattle.bm_world_fire.proofs.Taken.{taking_whole, within}
 
 -- ---- live outputs by their places
-
-some_entry : (os : List Output) (k n : ℕ) (o : Output) → slice_get os n ≡ Some o → o.live ≡ true → is_some (at_place (live_from k os) o.outpoint) ≡ true
-some_entry [] k n o h l = cc
-some_entry (x ∷ os) k zero o h l =
-    let e : x ≡ o = cc in
-    let a : x.live ≡ true = ap (λ (y : Output). y.live) e ∙ l in
-    let b : same_outpoint o.outpoint x.outpoint ≡ true = subst (λ (y : Output). same_outpoint o.outpoint y.outpoint ≡ true) (sym e) (place_refl o.outpoint) in
-    rw (a, b) refl
-some_entry (x ∷ os) k (suc n) o h l = by_live x.live (some_entry os (k + 1) n o h l)
-  where
-    by_place : (b : Bool) → is_some (at_place (live_from (k + 1) os) o.outpoint) ≡ true
-        → is_some (cond b (Some (k, tx_out x)) (at_place (live_from (k + 1) os) o.outpoint)) ≡ true
-    by_place true ih = refl
-    by_place false ih = ih
-
-    by_live : (b : Bool) → is_some (at_place (live_from (k + 1) os) o.outpoint) ≡ true
-        → is_some (at_place (if b then (x.outpoint, (k, tx_out x)) ∷ live_from (k + 1) os else live_from (k + 1) os) o.outpoint) ≡ true
-    by_live true ih = by_place (same_outpoint o.outpoint x.outpoint) ih
-    by_live false ih = ih
 
 is_live : (o : Output) (held : ContractPosition) → live_position (Some o) ≡ Some held → o.live ≡ true
 is_live o held h = by_live o.live refl h
@@ -77,25 +53,7 @@ is_live o held h = by_live o.live refl h
 entry_number : (w : World) → ((m n : ℕ) (o p : Output) → slice_get w.outputs m ≡ Some o → slice_get w.outputs n ≡ Some p
     → o.outpoint ≡ p.outpoint → m ≡ n) → (n : ℕ) (o : Output) → slice_get w.outputs n ≡ Some o → o.live ≡ true
     → option_map_or (λ (p : ℕ × TxOut). p.0) (at_place (live_from 0 w.outputs) o.outpoint) 0 ≡ n
-entry_number w apart n o there live = by_entry (at_place (live_from 0 w.outputs) o.outpoint) refl (some_entry w.outputs 0 n o there live)
-  where
-    by_entry : (r : Option (ℕ × TxOut)) → at_place (live_from 0 w.outputs) o.outpoint ≡ r → is_some r ≡ true
-        → option_map_or (λ (p : ℕ × TxOut). p.0) r 0 ≡ n
-    by_entry None e q = cc
-    by_entry (Some q) e x =
-        let f = found w.outputs o.outpoint 0 q e in
-        let m : n ≡ f.number = apart n f.number o f.output there f.there (place-true o.outpoint f.output.outpoint f.here) in
-        let y = f.counted in
-        omega (arith, y, m)
-
--- the first of the persistent deposits
-first_persistent : (hash : List ℕ → List ℕ) (st : Instance) (ds : List (List ℕ × Holding)) (x : Spent) (xs : List Spent)
-    → map bare_input (map input_of (x ∷ xs)) ≡ map bare_input (map input_of (map (λ (d : List ℕ × Holding). deposit hash st d.0 d.1) ds))
-    → (d : List ℕ × Holding) × Is_in d ds × (x.outpoint ≡ (deposit hash st d.0 d.1).outpoint)
-first_persistent hash st [] x xs h = cc
-first_persistent hash st (d ∷ ds) x xs h =
-    let a : bare_input (input_of x) ≡ bare_input (input_of (deposit hash st d.0 d.1)) = cc in
-    (d, inl refl, ap (λ (y : TxIn). y.prev) a)
+entry_number w apart n o there live = ap (λ (r : Option (ℕ × TxOut)). option_map_or (λ (p : ℕ × TxOut). p.0) r 0) (live_entry w apart n o there live)
 
 -- ---- initial transactions
 
@@ -154,7 +112,7 @@ module _ (s : Setup) (setup : IsSetup s) (g : Configuration) (w : World) (keeps 
         by_contract (Some k) e =
             let first = initial_is s w tx k e in
             let same : bare (tx_of unsigned) ≡ bare (tx_of (initial_unsigned s.hash first.instance)) = sym same_bare ∙ first.is in
-            let d = first_persistent s.hash first.instance (persistent first.instance.advert.pre) fine.here.output _ (ap (λ (y : Tx). y.inputs) same) in
+            let d = first_persistent s.hash first.instance (persistent first.instance.advert.pre) (input_of fine.here.output) _ (ap (λ (y : Tx). y.inputs) same) in
             let a = at_bound s g w keeps.book k first.instance first.compiled (d.0.0) (d.0.1) (persistent_deposit first.instance.advert.pre d.0 d.1) in
             let m = keeps.book.apart n a.number out.output a.bound.output out.there a.bound.there (fine.outpoint ∙ d.2 ∙ a.outpoint) in
             let o : (let y : Option Output = Some out.output in y) ≡ Some a.bound.output = sym out.there ∙ ap (slice_get w.outputs) m ∙ a.bound.there in

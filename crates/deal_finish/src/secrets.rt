@@ -16,11 +16,8 @@ ghost use Rattle.deal_finish.specs.Filled.{fits_by};
 use bm_pred::value;
 use bm_syntax::{Guarded, Pred, core};
 use deal_secrets::Strings;
-use spec_data::{Bytes, Name, OutOfMemory};
+use spec_data::{Bytes, LEAST_SECRET_BYTES, Name, OutOfMemory};
 use std::alloc::Global;
-
-// The fewest bytes of a secret.
-const LEAST_BYTES: u32 = 16;
 
 // The string of a secret, nothing without one.
 fn string_or_none(alloc: Global, strings: &Strings, name: &Name) -> Result<Bytes, OutOfMemory>
@@ -65,7 +62,7 @@ fn length_of(strings: &Strings, name: &Name) -> u32
     ensures short { result ≤ most_item_bytes }
 {
     match strings.string(name) {
-        Some(bytes) => (bytes.as_slice().len() as u32).saturating_sub(LEAST_BYTES),
+        Some(bytes) => (bytes.as_slice().len() as u32).saturating_sub(LEAST_SECRET_BYTES as u32),
         None => 0,
     }
 }

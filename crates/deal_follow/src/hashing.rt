@@ -11,14 +11,8 @@ ghost use Rattle.deal_follow.specs.Seen.{item_in, hashed_items, witness_in, like
 use bm_hash::{Hash32, Trail, TrailError, hash_all};
 use bm_tx::txid;
 use spec_bitcoin::{Tx, TxIn};
-use spec_data::{Bytes, OutOfMemory};
+use spec_data::{Bytes, LEAST_SECRET_BYTES, MOST_ITEM_BYTES, OutOfMemory};
 use std::alloc::Global;
-
-// The fewest bytes of a secret.
-const LEAST_BYTES: usize = 16;
-
-// The most bytes of an item of a witness.
-const MOST_BYTES: usize = 520;
 
 /// An item of a witness, and its digest.
 #[derive(Clone, Copy)]
@@ -39,7 +33,7 @@ pub(crate) struct Strings<'a> {
 pub(crate) fn has_length(bytes: &[u8]) -> bool
     ensures { result ≡ has_length bytes.now }
 {
-    LEAST_BYTES <= bytes.len() && bytes.len() <= MOST_BYTES
+    LEAST_SECRET_BYTES <= bytes.len() && bytes.len() <= MOST_ITEM_BYTES
 }
 
 // Hashes the items of the witnesses of these inputs, input by input.

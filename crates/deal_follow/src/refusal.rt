@@ -22,13 +22,10 @@ use bm_interp::{SigCheck, eval};
 use bm_tx::encode_stripped;
 use spec_bitcoin::{OutPoint, Tx, TxIn};
 use spec_chain::{ChainReason, Output};
-use spec_data::{Bytes, OutOfMemory};
+use spec_data::{Bytes, MOST_ITEM_BYTES, OutOfMemory};
 use spec_deal::{Input, Transaction};
 use spec_tool::Which;
 use std::alloc::Global;
-
-/// The most bytes of an item of a witness.
-const MOST_BYTES: usize = 520;
 
 // ---- what it spends
 
@@ -178,7 +175,9 @@ impl SigCheck for TakesAll {
 fn has_long(items: &[Bytes]) -> bool
     ensures { result ≡ list_any is_long items.now }
 {
-    items.iter().any(|item| item.as_slice().len() > MOST_BYTES)
+    items
+        .iter()
+        .any(|item| item.as_slice().len() > MOST_ITEM_BYTES)
 }
 
 // Whether a script is true on these items, if none is too long and every signature is good.

@@ -9,16 +9,10 @@ ghost use Rattle.spec_deal.specs.declared.entry.Shown.{Shown as Told};
 ghost use Rattle.deal_secrets.specs.Seen.{shown_in, shown_by};
 
 use deal_index::{Indexed, Keyed};
-use spec_data::{Bytes, Name, OutOfMemory};
+use spec_data::{Bytes, LEAST_SECRET_BYTES, MOST_ITEM_BYTES, Name, OutOfMemory};
 use spec_deal::Shown;
 use std::alloc::Global;
 use std::marker::Model;
-
-// The fewest bytes of a secret.
-const LEAST_BYTES: usize = 16;
-
-// The most bytes of an item of a witness.
-const MOST_BYTES: usize = 520;
 
 /// A string, found by the name of its secret.
 pub(crate) struct Entry {
@@ -128,7 +122,7 @@ impl Strings {
 pub(crate) fn has_length(bytes: &[u8]) -> bool
     ensures { result ≡ has_length bytes.now }
 {
-    LEAST_BYTES <= bytes.len() && bytes.len() <= MOST_BYTES
+    LEAST_SECRET_BYTES <= bytes.len() && bytes.len() <= MOST_ITEM_BYTES
 }
 
 // What is known of all that were given: each has as many bytes as a secret may have.

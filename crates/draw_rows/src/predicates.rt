@@ -13,7 +13,7 @@ ghost use Rattle.spec_page.specs.Statuses as spec;
 use bm_calculus::Config;
 use bm_pred::{is_bounded, value};
 use bm_syntax::{Advert, Guarded, Name, Pre, Pred, core, reveals};
-use spec_data::OutOfMemory;
+use spec_data::{MOST_ITEM_BYTES, OutOfMemory};
 use spec_page::Status;
 use std::alloc::{AllocError, Global};
 use std::marker::Model;
@@ -66,7 +66,7 @@ fn lengths_of(
     let mut lengths = Vec::new(alloc);
     for name in names {
         let length = secret_length(config, contract, pre, name);
-        if length > 520 {
+        if length > MOST_ITEM_BYTES as u32 {
             return Err(AllocError);
         }
         lengths.push((*name, length))?;

@@ -10,5 +10,8 @@ pub mod seq;
 pub use boxed::Boxed;
 pub use byte_list::{Bytes, OutOfMemory, end_apart};
 pub use name::Name;
-pub use ranges::{LAST_HEIGHT, MAX_MONEY, MOST_EVENTS, MOST_RUN_BYTES, MOST_TEXT_BYTES};
+pub use ranges::{
+    LAST_HEIGHT, LEAST_SECRET_BYTES, MAX_MONEY, MOST_EVENTS, MOST_ITEM_BYTES, MOST_RUN_BYTES,
+    MOST_TEXT_BYTES,
+};
 pub use seq::Seq;

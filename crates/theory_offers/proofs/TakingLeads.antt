@@ -1,19 +1,16 @@
 -- The event of an offered branch leads to it.
-use Rattle.std.proofs.Common.{◌≡◌, ℕ, List, [], ◌∷◌, ◌++◌, length, map, not, Option, Some, None, refl, sym, ap, ◌∙◌, subst, inl, append_assoc}
+use Rattle.std.proofs.Common.{◌≡◌, ℕ, List, [], ◌∷◌, ◌++◌, length, map, not, Option, Some, None, refl, sym, ap, ◌∙◌, subst, append_assoc}
 use Rattle.std.specs.Prelude.{slice_get, is_some}
 use Rattle.std.specs.List.{filter}
 use Rattle.spec_data.specs.Lists.{first_reason}
 use Rattle.spec_terms.specs.Core.{core}
-use Rattle.spec_terms.specs.Precondition.{Holding, persistent}
+use Rattle.spec_terms.specs.Precondition.{persistent}
 use Rattle.spec_terms.specs.Term.{branches}
-use Rattle.spec_bitcoin.specs.declared.tx.TxIn.{TxIn}
 use Rattle.spec_bitcoin.specs.declared.tx.Tx.{Tx}
 use Rattle.spec_bitcoin.specs.Verdict as bitcoin
 use Rattle.spec_calculus.specs.declared.step.Step.{Step}
 use Rattle.spec_calculus.specs.Configuration.{Configuration}
-use Rattle.spec_compiler.specs.Instance.{Instance}
-use Rattle.spec_compiler.specs.declared.unsigned.Spent.{Spent}
-use Rattle.spec_compiler.specs.Transactions.{input_of, tx_of, prepared, deposit, initial_unsigned}
+use Rattle.spec_compiler.specs.Transactions.{input_of, tx_of, prepared, initial_unsigned}
 use Rattle.spec_run.specs.declared.event.Event.TheVariants as events
 use Rattle.spec_run.specs.Setup.{Setup, people_at}
 use Rattle.spec_run.specs.World.{Output, World, live_position_at}
@@ -26,29 +23,19 @@ use Rattle.spec_compiler.specs.Witness.{chosen_by}
 use Rattle.spec_run.specs.Steps.{reveals, kind_steps, branch_steps, auth_branch, is_awaited, core_step, steps_of}
 use Rattle.spec_run.specs.Event.{pending}
 use Rattle.spec_run.specs.Statements.{IsLast, LeadsTo, IsKept}
-use Rattle.theory_bitcoin.specs.Apart.{bare_input, bare}
-use Rattle.theory_calculus.specs.Members.{Is_in}
+use Rattle.theory_bitcoin.specs.Apart.{bare}
 use Rattle.theory_calculus.proofs.Members.{get_below}
 use Rattle.theory_calculus.proofs.Names.{persistent_deposit}
 use Rattle.theory_script.proofs.Scripts.Choosing.{witness_chooses}
 use Rattle.theory_run.specs.KeptBook.{KeptBook}
 use Rattle.theory_run.proofs.Accepted.Spending.{Checked}
 use Rattle.theory_run.proofs.Accepted.Kinded.{counted}
-use Rattle.theory_run.proofs.Accepted.WhatItIs.{initial_is, at_bound}
+use Rattle.theory_run.proofs.Accepted.WhatItIs.{initial_is, at_bound, first_persistent}
 use Rattle.theory_world.proofs.Ledger.Acceptable.{none_reason, with-bare}
 use Rattle.theory_offers.proofs.Basis.Offered.{KeptOffers}
 use Rattle.theory_offers.proofs.Leads.{leads_by}
 use Rattle.theory_offers.proofs.Takings as taking
 use Rattle.theory_offers.proofs.Takings.{MayTake}
-
--- the first of the persistent deposits
-first_persistent : (hash : List ℕ → List ℕ) (st : Instance) (ds : List (List ℕ × Holding)) (x : Spent) (xs : List Spent)
-    → map bare_input (map input_of (x ∷ xs)) ≡ map bare_input (map input_of (map (λ (d : List ℕ × Holding). deposit hash st d.0 d.1) ds))
-    → (d : List ℕ × Holding) × Is_in d ds × (x.outpoint ≡ (deposit hash st d.0 d.1).outpoint)
-first_persistent hash st [] x xs h = cc
-first_persistent hash st (d ∷ ds) x xs h =
-    let a : bare_input (input_of x) ≡ bare_input (input_of (deposit hash st d.0 d.1)) = cc in
-    (d, inl refl, ap (λ (y : TxIn). y.prev) a)
 
 module _ (s : Setup) (setup : IsSetup s) (g : Configuration) (w : World) (kept : KeptBook s g w) (check : Checked s w) (more : KeptOffers s g w) (n i : ℕ) (may : MayTake s g w n i) where
   abbrev tx : Tx
@@ -85,7 +72,7 @@ module _ (s : Setup) (setup : IsSetup s) (g : Configuration) (w : World) (kept :
       by_contract (Some j) e =
           let is = initial_is s w tx j e in
           let b : bare (tx_of (taking.made s setup g w kept check more n i may)) ≡ bare (tx_of (initial_unsigned s.hash is.instance)) = sym tx_bare ∙ is.is in
-          let d = first_persistent s.hash is.instance (persistent is.instance.advert.pre) may.fine.here.output _ (ap (λ (y : Tx). y.inputs) b) in
+          let d = first_persistent s.hash is.instance (persistent is.instance.advert.pre) (input_of may.fine.here.output) _ (ap (λ (y : Tx). y.inputs) b) in
           let a = at_bound s g w kept j is.instance is.compiled (d.0.0) (d.0.1) (persistent_deposit is.instance.advert.pre d.0 d.1) in
           let m = kept.apart n a.number may.output a.bound.output may.there a.bound.there (may.fine.outpoint ∙ d.2 ∙ a.outpoint) in
           let o : (let y : Option Output = Some may.output in y) ≡ Some a.bound.output = sym may.there ∙ ap (slice_get w.outputs) m ∙ a.bound.there in

@@ -132,7 +132,7 @@ pub at_bound : (s : Setup) (g : Configuration) (w : World) → KeptBook s g w �
 at_bound s g w kept k st c name h i = bound_at s w kept.adverts k st c name h i
 
 -- the first persistent deposit
-first_persistent : (hash : List ℕ → List ℕ) (st : Instance) (ds : List (List ℕ × Holding)) (x : TxIn) (xs : List TxIn)
+pub first_persistent : (hash : List ℕ → List ℕ) (st : Instance) (ds : List (List ℕ × Holding)) (x : TxIn) (xs : List TxIn)
     → map bare_input (x ∷ xs) ≡ map bare_input (map input_of (map (λ (d : List ℕ × Holding). deposit hash st d.0 d.1) ds))
     → (d : List ℕ × Holding) × Is_in d ds × (x.prev ≡ (deposit hash st d.0 d.1).outpoint)
 first_persistent hash st [] x xs h = cc

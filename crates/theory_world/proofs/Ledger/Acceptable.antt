@@ -137,27 +137,29 @@ some_entry (x ∷ os) k (suc n) o h l = by_live x.live (some_entry os (k + 1) n 
     by_live true ih = by_place (same_outpoint o.outpoint x.outpoint) ih
     by_live false ih = ih
 
+-- the entry of a live output
+pub live_entry : (w : World) → ((m n : ℕ) (o p : Output) → slice_get w.outputs m ≡ Some o → slice_get w.outputs n ≡ Some p → o.outpoint ≡ p.outpoint → m ≡ n)
+    → (n : ℕ) (o : Output) → slice_get w.outputs n ≡ Some o → o.live ≡ true → at_place (live_from 0 w.outputs) o.outpoint ≡ Some (n, tx_out o)
+live_entry w apart n o h l = by_entry (at_place (live_from 0 w.outputs) o.outpoint) refl (some_entry w.outputs 0 n o h l)
+  where
+    by_entry : (r : Option (ℕ × TxOut)) → at_place (live_from 0 w.outputs) o.outpoint ≡ r → is_some r ≡ true → r ≡ Some (n, tx_out o)
+    by_entry None e q = cc
+    by_entry (Some q) e x =
+        let f = found w.outputs o.outpoint 0 q e in
+        let m : n ≡ f.number = apart n f.number o f.output h f.there (place-true o.outpoint f.output.outpoint f.here) in
+        let c : q.0 ≡ n = let y = f.counted in omega (arith, y, m) in
+        let g : Some f.output ≡ Some o = sym f.there ∙ sym (ap (slice_get w.outputs) m) ∙ h in
+        let u : f.output ≡ o = cc in
+        let v : q.1 ≡ tx_out o = f.same ∙ ap tx_out u in
+        λ j. Some (c j, v j)
+
 module _ (s : Setup) (w : World) (size : IsHash s.hash) (apart : (m n : ℕ) (o p : Output) → slice_get w.outputs m ≡ Some o → slice_get w.outputs n ≡ Some p → o.outpoint ≡ p.outpoint → m ≡ n) where
   live : List Entry
   live = live_from 0 w.outputs
 
-  entry : (n : ℕ) (o : Output) → slice_get w.outputs n ≡ Some o → o.live ≡ true → at_place (live_from 0 w.outputs) o.outpoint ≡ Some (n, tx_out o)
-  entry n o h l = by_entry (at_place (live_from 0 w.outputs) o.outpoint) refl (some_entry w.outputs 0 n o h l)
-    where
-      by_entry : (r : Option (ℕ × TxOut)) → at_place (live_from 0 w.outputs) o.outpoint ≡ r → is_some r ≡ true → r ≡ Some (n, tx_out o)
-      by_entry None e q = cc
-      by_entry (Some q) e x =
-          let f = found w.outputs o.outpoint 0 q e in
-          let m : n ≡ f.number = apart n f.number o f.output h f.there (place-true o.outpoint f.output.outpoint f.here) in
-          let c : q.0 ≡ n = let y = f.counted in omega (arith, y, m) in
-          let g : Some f.output ≡ Some o = sym f.there ∙ sym (ap (slice_get w.outputs) m) ∙ h in
-          let u : f.output ≡ o = cc in
-          let v : q.1 ≡ tx_out o = f.same ∙ ap tx_out u in
-          λ j. Some (c j, v j)
-
   module _ (tx : Tx) (x : Spent) (u : List (List ℕ)) (n : ℕ) (r : Ready s w tx x u n) where
     here : at_place (live_from 0 w.outputs) x.outpoint ≡ Some (n, tx_out r.output)
-    here = subst (λ p. at_place (live_from 0 w.outputs) p ≡ Some (n, tx_out r.output)) (sym r.outpoint) (entry n r.output r.there r.live)
+    here = subst (λ p. at_place (live_from 0 w.outputs) p ≡ Some (n, tx_out r.output)) (sym r.outpoint) (live_entry w apart n r.output r.there r.live)
 
     input_fine : (us : List (List (List ℕ))) (k : ℕ)
         → first_reason (input_row s.hash w.book (with_witnesses tx us) k (record (input_of x) { witness = u }) (tx_out r.output)) ≡ None

@@ -1,10 +1,9 @@
 -- Every string that is known is one that a secret of the contract may have.
-use Rattle.std.proofs.Common.{◌≡◌, ℕ, ◌+◌, ◌≤◌, List, [], ◌∷◌, ◌++◌, map, length, Bool, true, false, Option, Some, None, refl, sym, ap, subst, ◌∙◌, inl, inr, arith}
-use Rattle.std.specs.Prelude.{◌⊎◌, ◌&&◌, nat_le}
+use Rattle.std.proofs.Common.{◌≡◌, ℕ, ◌+◌, List, [], ◌∷◌, ◌++◌, map, true, Option, Some, None, refl, sym, subst, inl, inr}
 use Rattle.std.specs.List.{find}
 use Rattle.std.specs.Option.{option_map}
 use Rattle.std.specs.Str.{bytes_eq}
-use Rattle.std.proofs.lemmas.Bool.{and_parts, and_from}
+use Rattle.std.proofs.lemmas.Bool.{and_parts}
 use Rattle.spec_data.specs.Hashes.{IsBytes}
 use Rattle.spec_data.specs.Lists.{is_among}
 use Rattle.spec_data.specs.Messages.{noted}
@@ -17,13 +16,13 @@ use Rattle.spec_text.specs.Lines.{lines_of}
 use Rattle.spec_deal.specs.declared.entry.Shown.{Shown}
 use Rattle.spec_deal.specs.declared.fault.SecretFault.{SecretFault}
 use Rattle.spec_deal.specs.Needed.{needed_secrets}
-use Rattle.spec_deal.specs.SecretFile.{SecretsRead, shows, refused, collided, has_length, read_behind, string_for}
+use Rattle.spec_deal.specs.SecretFile.{shows, refused, collided, has_length, read_behind, string_for}
 use Rattle.spec_deal.specs.Transactions.{transactions}
 use Rattle.spec_chain.specs.Chain.{Course, stands, follow_chain, opening_course}
 use Rattle.spec_chain.specs.ChainFile.{read_chain}
 use Rattle.spec_chain.specs.Outstanding.{known}
 use Rattle.theory_calculus.specs.Members.{Is_in}
-use Rattle.theory_calculus.proofs.Members.{in_append, all_in, found}
+use Rattle.theory_calculus.proofs.Members.{all_in, found}
 use Rattle.theory_calculus.proofs.Names.{bytes-true}
 use Rattle.theory_text.proofs.Lines.Hex.{read_hex_is}
 use Rattle.theory_deal.specs.Finished.{do_fit}
@@ -32,7 +31,7 @@ use Rattle.theory_chain.proofs.ChainRuns.{confirmed_spelled}
 use Rattle.theory_chain.proofs.Courses.{followed_exactly}
 use Rattle.theory_chain.proofs.Deals.Whole.{from_map}
 use Rattle.theory_chain.proofs.Stays.{known_fit}
-use Rattle.theory_state_text.proofs.Named.{Each, each_append, each_one, ShownFine, CourseNamed, along, deposits_are_named}
+use Rattle.theory_state_text.proofs.Named.{Each, each_append, each_one, CourseNamed, along, deposits_are_named}
 use Rattle.theory_state_text.proofs.ReadBack.{IsKnown}
 
 -- ---- a file of secrets

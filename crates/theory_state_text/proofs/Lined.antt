@@ -2,7 +2,6 @@
 use Rattle.std.proofs.Common.{◌≡◌, ℕ, List, [], ◌∷◌, ◌++◌, Bool, true, false, refl, sym, ap, ◌∙◌, append_assoc, append-nil, inl, inr, cond}
 use Rattle.std.specs.Prelude.{flat_map, filter}
 use Rattle.std.specs.List.{AllByRecursion}
-use Rattle.spec_text.specs.Lines.{lines_of}
 use Rattle.spec_text.specs.RunText.{newline}
 use Rattle.spec_deal.specs.DealText as print
 use Rattle.theory_calculus.specs.Members.{Is_in}

@@ -1,7 +1,7 @@
 -- What a chain shows of a deal has the names of its contract, and the strings that it shows are of bytes.
-use Rattle.std.proofs.Common.{◌≡◌, ℕ, ◌+◌, List, [], ◌∷◌, ◌++◌, map, Bool, true, false, Option, Some, None, refl, sym, ap, subst, ◌∙◌, inl, inr}
-use Rattle.std.specs.Prelude.{◌⊎◌, ◌&&◌, not, is_some, filter, flat_map}
-use Rattle.std.specs.List.{find, list_all, AllByRecursion}
+use Rattle.std.proofs.Common.{◌≡◌, ℕ, ◌+◌, List, [], ◌∷◌, ◌++◌, map, Bool, true, false, Option, Some, None, refl, sym, subst, inl, inr}
+use Rattle.std.specs.Prelude.{◌⊎◌, not, is_some, filter, flat_map}
+use Rattle.std.specs.List.{AllByRecursion}
 use Rattle.std.proofs.lemmas.Bool.{and_parts}
 use Rattle.spec_data.specs.Hashes.{IsBytes}
 use Rattle.spec_data.specs.Lists.{is_among, look_up}
@@ -23,7 +23,6 @@ use Rattle.spec_calculus.specs.declared.step.Step.{Step}
 use Rattle.spec_calculus.specs.declared.step.Step.TheVariants as steps
 use Rattle.spec_compiler.specs.Keyed.Instance.{Instance, people}
 use Rattle.spec_compiler.specs.Scripts.{digest_of}
-use Rattle.spec_compiler.specs.Keyed.Transactions.{outpoint_or_none, part_position}
 use Rattle.spec_run.specs.Steps.{auth_inits, auth_branch, core_step}
 use Rattle.spec_tool.specs.declared.which.Which.{Which}
 use Rattle.spec_tool.specs.declared.which.Which.TheVariants as names
@@ -37,12 +36,12 @@ use Rattle.spec_chain.specs.declared.output.Output.{Output}
 use Rattle.spec_chain.specs.declared.reading.Confirmed.{Confirmed}
 use Rattle.spec_chain.specs.Chain.{Course, if_matters, gone_on}
 use Rattle.spec_chain.specs.Following.{State, items_in, is_string_of, string_shown, is_newly_shown, newly_shown, strings_shown, outputs_of, outputs_named}
-use Rattle.spec_chain.specs.Following.{outputs_made, places_spent, reveal_steps, begin_steps, branch_steps, first_spent, selected, which_steps, which_of}
+use Rattle.spec_chain.specs.Following.{outputs_made, places_spent, reveal_steps, branch_steps, first_spent, selected, which_steps, which_of}
 use Rattle.spec_chain.specs.Following.{deposit_name, deposits_spent, gone_by, happened, matters}
 use Rattle.spec_chain.specs.Outputs.{is_position, is_there, output_there, without_all, deposits_from, deposit_outputs, parts_held, core_held, branch_held}
-use Rattle.spec_chain.specs.Outputs.{held_by, made_from, made_by, transaction_named}
+use Rattle.spec_chain.specs.Outputs.{held_by, made_from, transaction_named}
 use Rattle.theory_calculus.specs.Members.{Is_in}
-use Rattle.theory_calculus.proofs.Members.{in_append, in_filter, all_in, found, some_there}
+use Rattle.theory_calculus.proofs.Members.{in_append, in_filter, all_in, found}
 use Rattle.theory_calculus.proofs.Names.{in_named}
 use Rattle.theory_world.proofs.Labels.{core_readable}
 use Rattle.theory_play_text.specs.Printable.{IsNamed}

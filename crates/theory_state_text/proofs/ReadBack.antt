@@ -1,17 +1,16 @@
 -- A file with the lines of these secrets gives just their strings.
 use Rattle.std.proofs.Common.{◌≡◌, ℕ, ◌+◌, ◌<◌, ◌≤◌, List, [], ◌∷◌, ◌++◌, length, Bool, true, false, Option, Some, None, refl, sym, ap, subst, ◌∙◌, inl, inr, cond}
 use Rattle.std.proofs.Common.{arith}
-use Rattle.std.specs.Prelude.{◌⊎◌, ◌&&◌, ◌||◌, not, filter, flat_map, nat_lt, nat_le, codes}
+use Rattle.std.specs.Prelude.{◌⊎◌, ◌||◌, not, filter, flat_map, nat_lt, codes}
 use Rattle.std.specs.List.{find, AllByRecursion, Contains}
 use Rattle.std.specs.Option.{option_map}
 use Rattle.std.specs.Str.{bytes_eq}
-use Rattle.std.proofs.lemmas.Bool.{and_parts, both_ways, false_from_ne_true, not-true}
+use Rattle.std.proofs.lemmas.Bool.{and_parts, both_ways, not-true}
 use Rattle.std.proofs.lemmas.Bool.Decides.{nat_tests}
 use Rattle.spec_data.specs.Digits.{hex_text, read_hex}
 use Rattle.spec_data.specs.Hashes.{IsBytes}
 use Rattle.spec_data.specs.Lists.{is_among, are_different, or_else}
 use Rattle.spec_data.specs.Messages.{noted, is_twin, collision_with}
-use Rattle.spec_terms.specs.Advert.{Advert}
 use Rattle.spec_compiler.specs.Scripts.{digest_of}
 use Rattle.spec_compiler.specs.Keyed.Instance.{Instance}
 use Rattle.spec_text.specs.Lines.{lines_of, words_of}

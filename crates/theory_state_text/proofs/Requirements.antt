@@ -1,6 +1,6 @@
 -- What is missing for a transaction of a deal is told in names of its contract.
-use Rattle.std.proofs.Common.{◌≡◌, ℕ, ◌+◌, zero, suc, List, [], ◌∷◌, ◌++◌, map, Bool, true, false, Option, Some, None, refl, sym, ap, subst, ◌∙◌, arith, inl, inr, cond}
-use Rattle.std.specs.Prelude.{◌⊎◌, ◌&&◌, not, is_some, nat_lt, filter, flat_map}
+use Rattle.std.proofs.Common.{◌≡◌, ℕ, ◌+◌, zero, suc, List, [], ◌∷◌, ◌++◌, map, Bool, true, false, Option, Some, None, refl, inl, inr, cond}
+use Rattle.std.specs.Prelude.{◌&&◌, not, is_some, nat_lt, filter}
 use Rattle.std.specs.List.{list_all, list_any, AllByRecursion}
 use Rattle.std.specs.Option.{option_map, option_map_or}
 use Rattle.std.proofs.lemmas.Bool.{and_parts, and_from}
@@ -28,7 +28,6 @@ use Rattle.spec_text.specs.Words.{◌>>=◌}
 use Rattle.spec_tool.specs.Keyed.Listed.{Listed, deposit_signer, branch_signers, path_signers, initial_listed, path_listed, listed}
 use Rattle.spec_deal.specs.declared.entry.Shown.{Shown}
 use Rattle.spec_deal.specs.declared.signed.Signed.{Signed}
-use Rattle.spec_deal.specs.declared.transaction.Transaction.{Transaction}
 use Rattle.spec_deal.specs.declared.transaction.Wallet.{Wallet}
 use Rattle.spec_deal.specs.Finished.{bytes_or_none, label_party, which_branch}
 use Rattle.spec_deal.specs.Given.{has, missing, is_unverified}
@@ -36,7 +35,6 @@ use Rattle.spec_deal.specs.SecretFile.{string_for}
 use Rattle.spec_deal.specs.Slots.{Slot, input_slot, input_slots, slots_from, listed_slots, slots}
 use Rattle.spec_deal.specs.Transactions.{transactions}
 use Rattle.spec_deal.specs.Wallets.{puts_at, input_deposit, wallet_of, input_wallet}
-use Rattle.spec_chain.specs.declared.output.Output.{Output}
 use Rattle.spec_chain.specs.declared.requirement.Requirement.{Requirement}
 use Rattle.spec_chain.specs.declared.requirement.Requirement.TheVariants as requirements
 use Rattle.spec_chain.specs.Following.{State}
@@ -44,7 +42,6 @@ use Rattle.spec_chain.specs.Outputs.{is_deposit, transaction_named}
 use Rattle.spec_chain.specs.Outstanding.{lock_of, height_requirements, is_needed_for, signature_requirement, signature_requirements, unverified_for}
 use Rattle.spec_chain.specs.Outstanding.{puts_by, deposits_needed, deposits_outstanding, secrets_outstanding, secret_requirement, gone_requirements}
 use Rattle.spec_chain.specs.Outstanding.{is_false, predicate_requirements, outstanding}
-use Rattle.theory_calculus.specs.Members.{Is_in}
 use Rattle.theory_calculus.proofs.Members.{all_in, all_get}
 use Rattle.theory_calculus.proofs.Names.{looked_in, volatile_deposit}
 use Rattle.theory_world.proofs.Labels.{core_readable}

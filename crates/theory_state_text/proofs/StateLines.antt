@@ -1,17 +1,16 @@
 -- The text of `state` is of whole lines, and those of secrets alone aren't read over.
-use Rattle.std.proofs.Common.{◌≡◌, ℕ, List, [], ◌∷◌, ◌++◌, map, reverse, Bool, true, false, Option, Some, None, refl, sym, ap, subst, ◌∙◌, arith, inl, inr, append-nil}
-use Rattle.std.specs.Prelude.{flat_map, filter, codes}
+use Rattle.std.proofs.Common.{◌≡◌, ℕ, List, [], ◌∷◌, ◌++◌, reverse, Option, Some, None, refl, ap, ◌∙◌, inl, inr, append-nil}
+use Rattle.std.specs.Prelude.{flat_map, codes}
 use Rattle.std.specs.Fmt.{decimal}
 use Rattle.std.specs.List.{list_any, AllByRecursion}
 use Rattle.spec_data.specs.Digits.{hex_text}
 use Rattle.spec_terms.specs.Faults.{IsWellFormed}
-use Rattle.spec_terms.specs.Precondition.{secrets, names_of}
 use Rattle.spec_bitcoin.specs.Keys.{label_text, path_text}
 use Rattle.spec_calculus.specs.declared.step.Step.{Step}
 use Rattle.spec_calculus.specs.declared.step.Step.TheVariants as steps
 use Rattle.spec_compiler.specs.Keyed.Keys.{Keys}
 use Rattle.spec_compiler.specs.Keyed.Instance.{Instance, people}
-use Rattle.spec_text.specs.RunText.{newline, output_text, outputs_text, contract_party_text}
+use Rattle.spec_text.specs.RunText.{output_text, contract_party_text}
 use Rattle.spec_text.specs.StepText.{branch_text, leads_text, step_words, step_line}
 use Rattle.spec_tool.specs.declared.which.Which.{Which}
 use Rattle.spec_tool.specs.Keyed.Listed.{which_text}
@@ -37,7 +36,6 @@ use Rattle.spec_chain.specs.Outstanding.{asked, known, outstanding, unverified_f
 use Rattle.spec_chain.specs.StateText.{txid_text, happened_name, gone_line, happened_text, output_words, live_line, paid_line, string_line, secrets_text}
 use Rattle.spec_chain.specs.StateText.{height_line, requirement_line, unverified_line, prospect_text, waits_line, all_outstanding, prospects_text}
 use Rattle.spec_chain.specs.StateText.{past_text, state_text}
-use Rattle.theory_calculus.specs.Members.{Is_in}
 use Rattle.theory_text.proofs.Lines.LineBytes.{ends_line, line_ends}
 use Rattle.theory_text.proofs.Lines.Separated.{Lacks}
 use Rattle.theory_play_text.specs.Printable.{IsNamed}

@@ -32,7 +32,8 @@ bad_from L bytes prefix rest more value parts begins none stops =
       begins = rw prefixes begins;
       longest = λ q lt le further a l.
           let w = longer prefix rest q (omega arith) (subst (λ (b : List ℕ). q ≤ length b) parts le) in
-          let is : take q bytes ++ further ≡ w_prefix prefix w.0 w.2 further = ap (λ (b : List ℕ). take q b ++ further) parts ∙ ap (λ (b : List ℕ). b ++ further) w.4 ∙ append_assoc prefix (w.0 ∷ w.2) further in
+          let is : take q bytes ++ further ≡ w_prefix prefix w.0 w.2 further =
+          ap (λ (b : List ℕ). take q b ++ further) parts ∙ ap (λ (b : List ℕ). b ++ further) w.4 ∙ append_assoc prefix (w.0 ∷ w.2) further in
           stops w.0 w.1 (w.2 ++ further) a w.3 (subst (λ (t : List ℕ). L t a) is l);
     }
 

@@ -94,7 +94,9 @@ abbrev prev_bytes : TxIn → List ℕ
 prev_bytes i = place_bytes i.prev
 
 some_place : (p : OutPoint) (x : List ℕ) → [] ≡ place_bytes p ++ x → IsPlace p → ⊥
-some_place p x e h = let n : 0 ≡ length (place_bytes p ++ x) = ap length e in omega (arith, n, length-append (place_bytes p) x, length-append p.txid (word p.vout), h.size)
+some_place p x e h =
+    let n : 0 ≡ length (place_bytes p ++ x) = ap length e in
+    omega (arith, n, length-append (place_bytes p) x, length-append p.txid (word p.vout), h.size)
 
 pub inputs_places : (is : List TxIn) → AllByRecursion IsInput is → AllPlaces is
 inputs_places [] h = tt
@@ -106,7 +108,8 @@ all_places [] [] h k e = refl
 all_places [] (y ∷ ys) h k e = absurd (some_place y.prev (flat_map prev_bytes ys) (e ∙ flat_map-cons prev_bytes y ys) k.0)
 all_places (x ∷ xs) [] h k e = absurd (some_place x.prev (flat_map prev_bytes xs) (sym e ∙ flat_map-cons prev_bytes x xs) h.0)
 all_places (x ∷ xs) (y ∷ ys) h k e =
-    let r = places x.prev y.prev (flat_map prev_bytes xs) (flat_map prev_bytes ys) h.0 k.0 (sym (flat_map-cons prev_bytes x xs) ∙ e ∙ flat_map-cons prev_bytes y ys) in
+    let r = places x.prev y.prev (flat_map prev_bytes xs)
+    (flat_map prev_bytes ys) h.0 k.0 (sym (flat_map-cons prev_bytes x xs) ∙ e ∙ flat_map-cons prev_bytes y ys) in
     let rest = all_places xs ys h.1 k.1 r.1 in
     λ i. r.0 i ∷ rest i
 
@@ -125,8 +128,10 @@ all_outputs [] [] h k e = refl
 all_outputs [] (y ∷ ys) h k e = absurd (some_output y (flat_map output_bytes ys) (e ∙ flat_map-cons output_bytes y ys))
 all_outputs (x ∷ xs) [] h k e = absurd (some_output x (flat_map output_bytes xs) (sym e ∙ flat_map-cons output_bytes x xs))
 all_outputs (x ∷ xs) (y ∷ ys) h k e =
-    let f : output_bytes x ++ flat_map output_bytes xs ≡ output_bytes y ++ flat_map output_bytes ys = sym (flat_map-cons output_bytes x xs) ∙ e ∙ flat_map-cons output_bytes y ys in
-    let r = same_answer Output output_at an_output (output_bytes x) (flat_map output_bytes xs) (output_bytes y) (flat_map output_bytes ys) x y (record { same = refl; fits = h.0 }) (record { same = refl; fits = k.0 }) f in
+    let f : output_bytes x ++ flat_map output_bytes xs ≡ output_bytes y ++ flat_map output_bytes ys =
+    sym (flat_map-cons output_bytes x xs) ∙ e ∙ flat_map-cons output_bytes y ys in
+    let r = same_answer Output output_at an_output (output_bytes x) (flat_map output_bytes xs)
+    (output_bytes y) (flat_map output_bytes ys) x y (record { same = refl; fits = h.0 }) (record { same = refl; fits = k.0 }) f in
     let rest = all_outputs xs ys h.1 k.1 r.1 in
     λ i. r.0 i ∷ rest i
 

@@ -142,7 +142,8 @@ bind_fails F K f k ef ek bytes left fits (Ok x) is e =
       stops = λ c after further v at q.
           let one : t.text ++ (s.prefix ++ c ∷ further) ≡ q.first ++ q.second = sym (append_assoc t.text s.prefix (c ∷ further)) ∙ q.parts in
           let same = same_answer F f ef t.text (s.prefix ++ c ∷ further) q.first q.second x.0 q.value t.spelled q.prefix one in
-          let back : K x.0 (s.prefix ++ c ∷ further) v = subst (λ (a : _). K a (s.prefix ++ c ∷ further) v) (sym same.0) (subst (λ (l : List ℕ). K q.value l v) (sym same.1) q.back) in
+          let back : K x.0 (s.prefix ++ c ∷ further) v =
+          subst (λ (a : _). K a (s.prefix ++ c ∷ further) v) (sym same.0) (subst (λ (l : List ℕ). K q.value l v) (sym same.1) q.back) in
           s.stops c after further v at back;
     }
 

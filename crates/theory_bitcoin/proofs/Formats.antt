@@ -119,13 +119,31 @@ pub record IsTopped (w : Width) (low : ℕ) : Type 0 where
   pub topped : (c : List ℕ) → length c ≡ byte_len w - 1 → low ≤ from_le_bytes w (c ++ 255 ∷ [])
 
 pub topped16 : IsTopped w16 253
-topped16 = record { topped = λ c len. let top : get_or (c ++ 255 ∷ []) 1 0 ≡ 255 = subst (λ (k : ℕ). get_or (c ++ 255 ∷ []) k 0 ≡ 255) len (get_or-append_seam c 255 [] 0) in omega (arith, top) }
+topped16 =
+    record {
+      topped =
+          λ c len.
+          let top : get_or (c ++ 255 ∷ []) 1 0 ≡ 255 = subst (λ (k : ℕ). get_or (c ++ 255 ∷ []) k 0 ≡ 255) len (get_or-append_seam c 255 [] 0) in
+          omega (arith, top);
+    }
 
 pub topped32 : IsTopped w32 (2 ^ 16)
-topped32 = record { topped = λ c len. let top : get_or (c ++ 255 ∷ []) 3 0 ≡ 255 = subst (λ (k : ℕ). get_or (c ++ 255 ∷ []) k 0 ≡ 255) len (get_or-append_seam c 255 [] 0) in omega (arith, top) }
+topped32 =
+    record {
+      topped =
+          λ c len.
+          let top : get_or (c ++ 255 ∷ []) 3 0 ≡ 255 = subst (λ (k : ℕ). get_or (c ++ 255 ∷ []) k 0 ≡ 255) len (get_or-append_seam c 255 [] 0) in
+          omega (arith, top);
+    }
 
 pub topped64 : IsTopped w64 (2 ^ 32)
-topped64 = record { topped = λ c len. let top : get_or (c ++ 255 ∷ []) 7 0 ≡ 255 = subst (λ (k : ℕ). get_or (c ++ 255 ∷ []) k 0 ≡ 255) len (get_or-append_seam c 255 [] 0) in omega (arith, top) }
+topped64 =
+    record {
+      topped =
+          λ c len.
+          let top : get_or (c ++ 255 ∷ []) 7 0 ≡ 255 = subst (λ (k : ℕ). get_or (c ++ 255 ∷ []) k 0 ≡ 255) len (get_or-append_seam c 255 [] 0) in
+          omega (arith, top);
+    }
 
 abbrev large : Width → ℕ → List ℕ → ℕ → Bool
 large w low c b = leb low (from_le_bytes w (c ++ b ∷ []))
@@ -137,7 +155,9 @@ wide_to : (w : Width) (low limit : ℕ) → 0 < byte_len w → IsWide w limit �
 wide_to w low limit some wide text n s =
     let c = s.value in
     let b = s.back.value in
-    let is : text ≡ c ++ b ∷ [] = s.parts ∙ ap (λ (l : List ℕ). s.first ++ l) (s.back.parts ∙ ap (λ (l : List ℕ). s.back.first ++ l) s.back.back.empty ∙ append-nil s.back.first ∙ s.back.prefix.single) ∙ ap (λ (l : List ℕ). l ++ b ∷ []) s.prefix.same in
+    let is : text ≡ c ++ b ∷ [] =
+    s.parts ∙ ap (λ (l : List ℕ). s.first ++ l) (s.back.parts ∙ ap (λ (l : List ℕ). s.back.first ++ l) s.back.back.empty
+    ∙ append-nil s.back.first ∙ s.back.prefix.single) ∙ ap (λ (l : List ℕ). l ++ b ∷ []) s.prefix.same in
     let len : length (c ++ b ∷ []) ≡ byte_len w = omega (arith, length-append c (b ∷ []), s.prefix.len) in
     let fits : IsBytes (c ++ b ∷ []) = IsBytes-append c (b ∷ []) s.prefix.fits (one_fits b s.back.prefix.fits) in
     record {
@@ -229,7 +249,8 @@ two_to t n h (eight ge e) = absurd (omega (arith, h.least, h.most))
 
 two_from : (t : List ℕ) (n : ℕ) → From 253 t n → Form n → Number w16 253 (2 ^ 16) t n
 two_from t n h (single lt e) = let q : 253 ∷ t ≡ n ∷ [] = h.is ∙ e in let bad : 253 ≡ n = cc in absurd (omega arith)
-two_from t n h (two ge lt e) = let q : 253 ∷ t ≡ 253 ∷ to_le_bytes w16 n = h.is ∙ e in record { bytes = tail_is 253 t (to_le_bytes w16 n) q; least = ge; most = lt }
+two_from t n h (two ge lt e) =
+    let q : 253 ∷ t ≡ 253 ∷ to_le_bytes w16 n = h.is ∙ e in record { bytes = tail_is 253 t (to_le_bytes w16 n) q; least = ge; most = lt }
 two_from t n h (four ge lt e) = let q : 253 ∷ t ≡ 254 ∷ to_le_bytes w32 n = h.is ∙ e in absurd (omega (arith, head_is 253 254 t _ q))
 two_from t n h (eight ge e) = let q : 253 ∷ t ≡ 255 ∷ to_le_bytes w64 n = h.is ∙ e in absurd (omega (arith, head_is 253 255 t _ q))
 
@@ -242,7 +263,8 @@ four_to t n h (eight ge e) = absurd (omega (arith, h.least, h.most))
 four_from : (t : List ℕ) (n : ℕ) → From 254 t n → Form n → Number w32 (2 ^ 16) (2 ^ 32) t n
 four_from t n h (single lt e) = let q : 254 ∷ t ≡ n ∷ [] = h.is ∙ e in let bad : 254 ≡ n = cc in absurd (omega arith)
 four_from t n h (two ge lt e) = let q : 254 ∷ t ≡ 253 ∷ to_le_bytes w16 n = h.is ∙ e in absurd (omega (arith, head_is 254 253 t _ q))
-four_from t n h (four ge lt e) = let q : 254 ∷ t ≡ 254 ∷ to_le_bytes w32 n = h.is ∙ e in record { bytes = tail_is 254 t (to_le_bytes w32 n) q; least = ge; most = lt }
+four_from t n h (four ge lt e) =
+    let q : 254 ∷ t ≡ 254 ∷ to_le_bytes w32 n = h.is ∙ e in record { bytes = tail_is 254 t (to_le_bytes w32 n) q; least = ge; most = lt }
 four_from t n h (eight ge e) = let q : 254 ∷ t ≡ 255 ∷ to_le_bytes w64 n = h.is ∙ e in absurd (omega (arith, head_is 254 255 t _ q))
 
 eight_to : (t : List ℕ) (n : ℕ) → Number w64 (2 ^ 32) (2 ^ 64) t n → Form n → From 255 t n
@@ -255,7 +277,8 @@ eight_from : (t : List ℕ) (n : ℕ) → From 255 t n → Form n → Number w64
 eight_from t n h (single lt e) = let q : 255 ∷ t ≡ n ∷ [] = h.is ∙ e in let bad : 255 ≡ n = cc in absurd (omega arith)
 eight_from t n h (two ge lt e) = let q : 255 ∷ t ≡ 253 ∷ to_le_bytes w16 n = h.is ∙ e in absurd (omega (arith, head_is 255 253 t _ q))
 eight_from t n h (four ge lt e) = let q : 255 ∷ t ≡ 254 ∷ to_le_bytes w32 n = h.is ∙ e in absurd (omega (arith, head_is 255 254 t _ q))
-eight_from t n h (eight ge e) = let q : 255 ∷ t ≡ 255 ∷ to_le_bytes w64 n = h.is ∙ e in record { bytes = tail_is 255 t (to_le_bytes w64 n) q; least = ge; most = h.most }
+eight_from t n h (eight ge e) =
+    let q : 255 ∷ t ≡ 255 ∷ to_le_bytes w64 n = h.is ∙ e in record { bytes = tail_is 255 t (to_le_bytes w64 n) q; least = ge; most = h.most }
 
 from_single : (b : ℕ) → b < 253 → Exact (From b) (λ bytes. Ok (b, bytes))
 from_single b lt = transfer (Nothing b) (From b) (λ bytes. Ok (b, bytes)) (single_to b lt) (λ t n h. single_from b lt t n h (form_of n)) (pure b)
@@ -316,7 +339,11 @@ pub record Count (p : ℕ → Bool) (text : List ℕ) (n : ℕ) : Type 0 where
 count_to : (p : ℕ → Bool) (text : List ℕ) (n : ℕ) → Seq (One p) From text n → Count p text n
 count_to p text n s =
     let is : text ≡ s.value ∷ s.second = s.parts ∙ ap (λ (l : List ℕ). l ++ s.second) s.prefix.single in
-    record { bytes = is ∙ s.back.is; most = s.back.most; head = λ b rest e. let same : s.value ≡ b = head_is s.value b s.second rest (sym is ∙ e) in ap p (sym same) ∙ s.prefix.passes }
+    record {
+      bytes = is ∙ s.back.is;
+      most = s.back.most;
+      head = λ b rest e. let same : s.value ≡ b = head_is s.value b s.second rest (sym is ∙ e) in ap p (sym same) ∙ s.prefix.passes;
+    }
 
 count_from : (p : ℕ → Bool) (text : List ℕ) (n : ℕ) → Count p text n → Seq (One p) From text n
 count_from p [] n h = absurd (no_empty n (form_of n) h.bytes)

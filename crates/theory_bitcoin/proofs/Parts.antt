@@ -31,7 +31,9 @@ module _ {A : Type 0} (f : A → List ℕ) (Fits : A → Type 0) where
   are_to zero text xs s = subst (Are f Fits 0 text) s.same (record { same = s.empty; len = refl; each = tt })
   are_to (suc n) text xs s =
       let others = are_to n s.back.first s.back.value s.back.prefix in
-      let is : text ≡ flat_map f (s.value ∷ s.back.value) = s.parts ∙ rw (s.prefix.same, s.back.parts, others.same, s.back.back.empty, append-nil (flat_map f s.back.value), flat_map-cons f s.value s.back.value) refl in
+      let is : text ≡ flat_map f (s.value ∷ s.back.value) =
+      s.parts ∙ rw
+      (s.prefix.same, s.back.parts, others.same, s.back.back.empty, append-nil (flat_map f s.back.value), flat_map-cons f s.value s.back.value) refl in
       subst (Are f Fits (suc n) text) s.back.back.same (record { same = is; len = ap suc others.len; each = (s.prefix.fits, others.each) })
 
   are_from : (n : ℕ) (text : List ℕ) (xs : List A) → Are f Fits n text xs → Many (Is f Fits) n text xs
@@ -107,7 +109,16 @@ input_to text i s =
     let script = s.back.back.value in
     let sequence = s.back.back.back.value in
     let is : text ≡ id ++ (word v ++ (sized script ++ (word sequence ++ []))) =
-    s.parts ∙ rw (s.prefix.same, s.back.parts, s.back.prefix.bytes, s.back.back.parts, s.back.back.prefix.same, s.back.back.back.parts, s.back.back.back.prefix.bytes, s.back.back.back.back.empty) refl in
+    s.parts ∙ rw (
+      s.prefix.same,
+      s.back.parts,
+      s.back.prefix.bytes,
+      s.back.back.parts,
+      s.back.back.prefix.same,
+      s.back.back.back.parts,
+      s.back.back.back.prefix.bytes,
+      s.back.back.back.back.empty,
+    ) refl in
     let whole : id ++ (word v ++ (sized script ++ (word sequence ++ []))) ≡ input_bytes (made id v script sequence) = simp (append_assoc, append-nil) in
     subst (BareInput text) s.back.back.back.back.same (record {
       same = is ∙ whole;
@@ -122,7 +133,8 @@ input_to text i s =
 input_from : (text : List ℕ) (i : TxIn) → BareInput text i → InputSeq text i
 input_from text i h =
     let parts : input_bytes i ≡ i.prev.txid ++ (word i.prev.vout ++ (sized i.script_sig ++ word i.sequence)) = simp append_assoc in
-    let same : made i.prev.txid i.prev.vout i.script_sig i.sequence ≡ i = ap (λ (w : List (List ℕ)). record { prev = i.prev; script_sig = i.script_sig; sequence = i.sequence; witness = w }) (sym h.fits.bare) in
+    let same : made i.prev.txid i.prev.vout i.script_sig i.sequence ≡ i =
+    ap (λ (w : List (List ℕ)). record { prev = i.prev; script_sig = i.script_sig; sequence = i.sequence; witness = w }) (sym h.fits.bare) in
     record {
       first = i.prev.txid;
       second = word i.prev.vout ++ (sized i.script_sig ++ word i.sequence);
@@ -216,7 +228,8 @@ Output = Is output_bytes IsOutput
 output_to : (text : List ℕ) (o : TxOut) → OutputSeq text o → Output text o
 output_to text o s =
     let is : text ≡ long_word s.value ++ (sized s.back.value ++ []) = s.parts ∙ rw (s.prefix.bytes, s.back.parts, s.back.prefix.same, s.back.back.empty) refl in
-    let whole : long_word s.value ++ (sized s.back.value ++ []) ≡ output_bytes (paid s.value s.back.value) = ap (λ (l : List ℕ). long_word s.value ++ l) (append-nil (sized s.back.value)) in
+    let whole : long_word s.value ++ (sized s.back.value ++ []) ≡ output_bytes (paid s.value s.back.value) =
+    ap (λ (l : List ℕ). long_word s.value ++ l) (append-nil (sized s.back.value)) in
     subst (Output text) s.back.back.same (record { same = is ∙ whole; fits = record { value = s.prefix.most; script = s.back.prefix.fits } })
 
 output_from : (text : List ℕ) (o : TxOut) → Output text o → OutputSeq text o
@@ -295,8 +308,10 @@ BodySeq = Seq Inputs (λ inputs. Seq Outputs (λ outputs. Nothing (both inputs o
 
 body_to : (text : List ℕ) (body : Body) → BodySeq text body → Plain text body
 body_to text body s =
-    let is : text ≡ inputs_bytes s.value ++ (outputs_bytes s.back.value ++ []) = s.parts ∙ rw (s.prefix.same, s.back.parts, s.back.prefix.same, s.back.back.empty) refl in
-    let whole : inputs_bytes s.value ++ (outputs_bytes s.back.value ++ []) ≡ body_bytes (both s.value s.back.value) = ap (λ (l : List ℕ). inputs_bytes s.value ++ l) (append-nil (outputs_bytes s.back.value)) in
+    let is : text ≡ inputs_bytes s.value ++ (outputs_bytes s.back.value ++ []) =
+    s.parts ∙ rw (s.prefix.same, s.back.parts, s.back.prefix.same, s.back.back.empty) refl in
+    let whole : inputs_bytes s.value ++ (outputs_bytes s.back.value ++ []) ≡ body_bytes (both s.value s.back.value) =
+    ap (λ (l : List ℕ). inputs_bytes s.value ++ l) (append-nil (outputs_bytes s.back.value)) in
     subst (Plain text) s.back.back.same (record { same = is ∙ whole; fits = record { inputs = s.prefix.fits; outputs = s.back.prefix.fits } })
 
 body_from : (text : List ℕ) (body : Body) → Plain text body → BodySeq text body

@@ -227,16 +227,31 @@ spells_either text t version body lock v l (inl s) e =
     let marker = zero_byte s.value s.prefix.passes in
     let flag = one_byte s.back.value s.back.prefix.passes in
     let parts : t ≡ 0 ∷ (1 ∷ (body_bytes s.back.back.value ++ flat_map witness_bytes s.back.back.back.value)) =
-    s.parts ∙ rw (s.prefix.single, marker, s.back.parts, s.back.prefix.single, flag, s.back.back.parts, plain.same, s.back.back.back.parts, ws.same, s.back.back.back.back.empty, append-nil (flat_map witness_bytes s.back.back.back.value)) refl in
+    s.parts ∙ rw (
+      s.prefix.single,
+      marker,
+      s.back.parts,
+      s.back.prefix.single,
+      flag,
+      s.back.back.parts,
+      plain.same,
+      s.back.back.back.parts,
+      ws.same,
+      s.back.back.back.back.empty,
+      append-nil (flat_map witness_bytes s.back.back.back.value),
+    ) refl in
     let whole : text ≡ word version ++ (0 ∷ (1 ∷ (body_bytes s.back.back.value ++ flat_map witness_bytes s.back.back.back.value)) ++ word lock) =
-    e ∙ ap (λ (u : List ℕ). word version ++ (u ++ (word lock ++ []))) parts ∙ ap (λ (u : List ℕ). word version ++ (0 ∷ (1 ∷ (body_bytes s.back.back.value ++ flat_map witness_bytes s.back.back.back.value)) ++ u)) (append-nil (word lock)) in
+    e ∙ ap (λ (u : List ℕ). word version ++ (u ++ (word lock ++ []))) parts
+    ∙ ap (λ (u : List ℕ). word version ++ (0 ∷ (1 ∷ (body_bytes s.back.back.value ++ flat_map witness_bytes s.back.back.back.value)) ++ u))
+    (append-nil (word lock)) in
     subst (λ (b : Body). Spells text (made version b lock)) s.back.back.back.back.same
     (marked_spells text version s.back.back.value s.back.back.back.value lock v l plain.fits ws.len ws.each
     (filled_of (length s.back.back.value.0) s.back.back.back.first s.back.back.back.value plain.fits.inputs.some stacks) whole)
 
 spells_to : (text : List ℕ) (tx : Tx) → TxSeq text tx → Spells text tx
 spells_to text tx s =
-    let e : text ≡ word s.value ++ (s.back.first ++ (word s.back.back.value ++ [])) = s.parts ∙ rw (s.prefix.bytes, s.back.parts, s.back.back.parts, s.back.back.prefix.bytes, s.back.back.back.empty) refl in
+    let e : text ≡ word s.value ++ (s.back.first ++ (word s.back.back.value ++ [])) =
+    s.parts ∙ rw (s.prefix.bytes, s.back.parts, s.back.back.parts, s.back.back.prefix.bytes, s.back.back.back.empty) refl in
     subst (Spells text) s.back.back.back.same
     (spells_either text s.back.first s.value s.back.value s.back.back.value s.prefix.most s.back.back.prefix.most s.back.prefix e)
 
@@ -370,7 +385,8 @@ from_marked : (text : List ℕ) (tx : Tx) → IsTransaction tx → is_marked tx.
 from_marked text tx fits h e =
     let same = together tx.inputs in
     let whole : marked tx ≡ word tx.version ++ (marked_parts tx.inputs tx.outputs ++ word tx.lock) =
-    ap (λ (xs : List TxIn). marked (made tx.version (xs, tx.outputs) tx.lock)) (sym same) ∙ sym (marked_text tx.version tx.lock (map bare_of tx.inputs) tx.outputs (map witness_of tx.inputs) (as_many tx.inputs)) in
+    ap (λ (xs : List TxIn). marked (made tx.version (xs, tx.outputs) tx.lock)) (sym same)
+    ∙ sym (marked_text tx.version tx.lock (map bare_of tx.inputs) tx.outputs (map witness_of tx.inputs) (as_many tx.inputs)) in
     between text (marked_parts tx.inputs tx.outputs) tx (with_witnesses (map bare_of tx.inputs) (map witness_of tx.inputs), tx.outputs) fits
     (ap (λ (xs : List TxIn). made tx.version (xs, tx.outputs) tx.lock) same)
     (inl (is_marked_text tx.inputs tx.outputs fits.inputs fits.some fits.few_inputs (record { few = fits.few_outputs; each = fits.outputs }) h))

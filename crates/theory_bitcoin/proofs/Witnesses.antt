@@ -83,7 +83,10 @@ stacks_to zero seen text ws s = subst (Are witness_bytes IsWitness 0 text) s.sam
 stacks_to (suc n) seen text ws s =
     let one = stack_to (may_be n seen) s.first s.value s.prefix in
     let others = stacks_to n (seen || is_filled s.value) s.back.first s.back.value s.back.prefix in
-    let is : text ≡ flat_map witness_bytes (s.value ∷ s.back.value) = s.parts ∙ rw (one.same, s.back.parts, others.same, s.back.back.empty, append-nil (flat_map witness_bytes s.back.value), flat_map-cons witness_bytes s.value s.back.value) refl in
+    let is : text ≡ flat_map witness_bytes (s.value ∷ s.back.value) =
+    s.parts ∙ rw
+    (one.same, s.back.parts, others.same, s.back.back.empty, append-nil (flat_map witness_bytes s.back.value), flat_map-cons witness_bytes s.value s.back.value)
+    refl in
     subst (Are witness_bytes IsWitness (suc n) text) s.back.back.same (record { same = is; len = ap suc others.len; each = (one.fits, others.each) })
 
 abbrev pub any_filled : List (List (List ℕ)) → Bool

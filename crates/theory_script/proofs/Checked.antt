@@ -224,10 +224,14 @@ is_good s path choice c =
     let r4 = and_parts (is_readable_count s.advert.root) (are_readable s.advert.root) r3.0 in
     let pre = and_parts (is_some_list s.advert.pre && list_all is_readable_entry s.advert.pre) _ r.0 in
     let pre2 = and_parts (is_some_list s.advert.pre) _ pre.0 in
-    let a = each_at (of_core known) s.advert.root path choice (each_of_advert (of_core known) _ s.advert (λ x h. core_says known x.subterm h) f.1.1.0) c.is_position in
-    let b = each_at (of_core revealed) s.advert.root path choice (each_of_advert (of_core revealed) _ s.advert (λ x h. core_says revealed x.subterm h) f.1.1.1.1.0) c.is_position in
-    let d = each_at (of_core bounded) s.advert.root path choice (each_of_advert (of_core bounded) _ s.advert (λ x h. core_says bounded x.subterm h) l.1.1.0) c.is_position in
-    let e = each_at (of_choice fits) s.advert.root path choice (each_of_advert (of_choice fits) _ s.advert (λ x h. choice_says fits x.subterm h) l.1.1.1.0) c.is_position in
+    let a = each_at (of_core known) s.advert.root path choice
+    (each_of_advert (of_core known) _ s.advert (λ x h. core_says known x.subterm h) f.1.1.0) c.is_position in
+    let b = each_at (of_core revealed) s.advert.root path choice
+    (each_of_advert (of_core revealed) _ s.advert (λ x h. core_says revealed x.subterm h) f.1.1.1.1.0) c.is_position in
+    let d = each_at (of_core bounded) s.advert.root path choice
+    (each_of_advert (of_core bounded) _ s.advert (λ x h. core_says bounded x.subterm h) l.1.1.0) c.is_position in
+    let e = each_at (of_choice fits) s.advert.root path choice
+    (each_of_advert (of_choice fits) _ s.advert (λ x h. choice_says fits x.subterm h) l.1.1.1.0) c.is_position in
     let w = each_at reads s.advert.root path choice (r4.0, each_reads s.advert.root r4.1) c.is_position in
     record {
       some_branch = some_branches choice w.0;

@@ -20,7 +20,8 @@ cut_whole before item rest k e =
     let d : k + length item - k ≡ length item = omega arith in
     let len : k + length item ≡ length (before ++ item) = omega (arith, length-append before item, e) in
     let skip : drop k (before ++ (item ++ rest)) ≡ item ++ rest = rw (← e) (drop-append_seam before (item ++ rest)) in
-    let past : drop (k + length item) (before ++ (item ++ rest)) ≡ rest = rw len (ap (drop (length (before ++ item))) (sym (append_assoc before item rest)) ∙ drop-append_seam (before ++ item) rest) in
+    let past : drop (k + length item) (before ++ (item ++ rest)) ≡ rest =
+    rw len (ap (drop (length (before ++ item))) (sym (append_assoc before item rest)) ∙ drop-append_seam (before ++ item) rest) in
     rw (le, d, skip, past, take-append_seam item rest)
 
 push_front : (a b : Bool) (item rest : List ℕ) → nat_le (length item) 520 ≡ true → nat_le (length item) 75 ≡ a → nat_le (length item) 255

@@ -131,7 +131,8 @@ module _ (hash : Item → Item) (valid : Item → Item → Bool) where
       let k = all_kept branches c.well c.operations in
       let s = output_sized branches k.sizes in
       let bytes : nat_le (length (encode (output_ops branches))) 10000 ≡ true = rw (s.bytes_are) (grind (arith, c.bytes)) in
-      let ops : nat_le (count_by is_counted (output_ops branches)) 201 ≡ true = rw (← counted_is (output_ops branches), s.operations_are) (grind (arith, c.operations)) in
+      let ops : nat_le (count_by is_counted (output_ops branches)) 201 ≡ true =
+      rw (← counted_is (output_ops branches), s.operations_are) (grind (arith, c.operations)) in
       rw (bytes, encode_read (output_ops branches) s.written, all_pushable (output_ops branches) s.written, ops)
       (output_meaning hash valid 201 branches (reverse stack) c.some_branch k.fine (omega (arith, k.few, c.operations)) (all_reverse is_short stack short))
 

@@ -197,7 +197,10 @@ module _ (hash : List ℕ → List ℕ) (keys : Keys) (s : Instance) where
   continued_fine : (here : Standing) (i : ℕ) (b c : term.Guarded) (p : Standing × Contract) → core b ≡ c → Fine (by_path.at_branch here i b)
       → continued_end hash keys s here i b c ≡ Some p → Fine (by_path.at_position p.0 p.1)
   continued_fine here i b (put_reveal puts reveals test next) p e f h =
-      let z : (let q : Standing × Contract = (continued hash keys s (branch_path here.position i) (branch_unsigned hash keys s here i b) (continued_value s here.output.value puts) next, next) in q) ≡ p = cc in
+      let z : (let q : Standing × Contract =
+      (continued hash keys s (branch_path here.position i) (branch_unsigned hash keys s here i b) (continued_value s here.output.value puts) next, next) in
+      q) ≡ p =
+      cc in
       let path = branch_path here.position i in
       let r = put_fine path here.output.value puts reveals test next (core_fine path here.output.value b _ e f.1.1) in
       subst (λ (q : Standing × Contract). Fine (by_path.at_position q.0 q.1)) z r.0
@@ -225,7 +228,9 @@ module _ (hash : List ℕ → List ℕ) (keys : Keys) (s : Instance) where
           (part_standing hash keys s (branch_path here.position i) (branch_unsigned hash keys s here i b) k p.0 p.1) p.1) o ≡ Some st → Fine st
       by_part None g q = cc
       by_part (Some x) g q =
-          let z : by_path.at_position (part_standing hash keys s (branch_path here.position i) (branch_unsigned hash keys s here i b) k x.0 x.1) x.1 ≡ st = cc in
+          let z : by_path.at_position (part_standing hash keys s (branch_path here.position i) (branch_unsigned hash keys s here i b) k x.0 x.1) x.1
+          ≡ st =
+          cc in
           let n : k + 0 ≡ k = omega arith in
           let path = branch_path here.position i in
           let r = part_fine path 0 k ps x g (core_fine path here.output.value b _ e f.1.1) in
@@ -280,7 +285,9 @@ module _ (hash : List ℕ → List ℕ) (keys : Keys) (s : Instance) where
     position_fine q here choice h = by_stand (end_at hash keys s q) refl h
       where
         by_end : (st : PathEnd) → Fine st → as_position hash keys s st ≡ Some (here, choice) → Fine (by_path.at_position here choice)
-        by_end (by_path.at_position a c) f e = let z : (let p : Standing × Contract = (a, c) in p) ≡ (here, choice) = cc in subst (λ (p : Standing × Contract). Fine (by_path.at_position p.0 p.1)) z f
+        by_end (by_path.at_position a c) f e =
+            let z : (let p : Standing × Contract = (a, c) in p) ≡ (here, choice) = cc in
+            subst (λ (p : Standing × Contract). Fine (by_path.at_position p.0 p.1)) z f
         by_end (by_path.at_branch a i b) f e = continued_fine a i b (core b) (here, choice) refl f e
 
         by_stand : (o : Option PathEnd) → end_at hash keys s q ≡ o → option_and_then (as_position hash keys s) o ≡ Some (here, choice)

@@ -77,7 +77,11 @@ module _ (hash : List ℕ → List ℕ) (keys : Keys) (s : Instance) (position :
 
   branch_demands : (choice : Contract) (i : ℕ) → slice_get (position_demands hash keys s position choice) i
       ≡ option_map (λ (b : term.Guarded). demands_of (core b) (keys_at i) s.hashes) (slice_get (branches choice) i)
-  branch_demands choice i = let e : 0 + i ≡ i = omega arith in subst (λ (j : ℕ). slice_get (position_demands hash keys s position choice) i ≡ option_map (λ (b : term.Guarded). demands_of (core b) (keys_at j) s.hashes) (slice_get (branches choice) i)) e (demands_at keys_at s.hashes 0 i (branches choice))
+  branch_demands choice i =
+      let e : 0 + i ≡ i = omega arith in
+      subst (λ (j : ℕ). slice_get (position_demands hash keys s position choice) i
+      ≡ option_map (λ (b : term.Guarded). demands_of (core b) (keys_at j) s.hashes) (slice_get (branches choice) i)) e
+      (demands_at keys_at s.hashes 0 i (branches choice))
 
   pub is_checked : (choice : Contract) → AreKeys hash keys → IsCompiled s position choice → IsChecked (position_demands hash keys s position choice)
   is_checked choice are_keys c =

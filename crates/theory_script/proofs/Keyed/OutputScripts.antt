@@ -67,7 +67,8 @@ module _ (hash : List ℕ → List ℕ) (keys : Keys) (s : Instance) where
   scripts_right = (
     refl,
     choice_right (root_standing hash keys s) 0 s.advert.root
-        (known_from hash keys s (root_standing hash keys s) s.advert.root (λ j. last_step hash keys s (branch_end (root_standing hash keys s) s.advert.root j))),
+        (known_from hash keys s (root_standing hash keys s) s.advert.root
+        (λ j. last_step hash keys s (branch_end (root_standing hash keys s) s.advert.root j))),
   )
 
   -- ---- and each position is in the list

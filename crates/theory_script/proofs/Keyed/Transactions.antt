@@ -97,13 +97,26 @@ module _ (hash : List ℕ → List ℕ) (keys : Keys) (s : Instance) where
 
   pub known_here : (here : Standing) (i : ℕ) (b : term.Guarded) (bs : Contract) → Known here i (branch b bs)
       → end_at hash keys s (branch_path here.position i) ≡ Some (at_branch here i b)
-  known_here here i b bs k = let z : i + 0 ≡ i = omega arith in subst (λ (n : ℕ). end_at hash keys s (branch_path here.position n) ≡ Some (at_branch here n b)) z (k.at 0)
+  known_here here i b bs k =
+      let z : i + 0 ≡ i = omega arith in subst (λ (n : ℕ). end_at hash keys s (branch_path here.position n) ≡ Some (at_branch here n b)) z (k.at 0)
 
   pub known_more : (here : Standing) (i : ℕ) (b : term.Guarded) (bs : Contract) → Known here i (branch b bs) → Known here (i + 1) bs
-  known_more here i b bs k = record { at = λ j. let z : i + suc j ≡ i + 1 + j = omega arith in subst (λ (n : ℕ). end_at hash keys s (branch_path here.position n) ≡ option_map (at_branch here n) (slice_get (branches bs) j)) z (k.at (suc j)) }
+  known_more here i b bs k =
+      record {
+        at =
+            λ j.
+            let z : i + suc j ≡ i + 1 + j = omega arith in
+            subst (λ (n : ℕ). end_at hash keys s (branch_path here.position n) ≡ option_map (at_branch here n) (slice_get (branches bs) j)) z (k.at (suc j));
+      }
 
   pub known_from : (here : Standing) (c : Contract) → ((j : ℕ) → end_at hash keys s (branch_path here.position j) ≡ branch_end here c j) → Known here 0 c
-  known_from here c f = record { at = λ j. let z : 0 + j ≡ j = omega arith in subst (λ (n : ℕ). end_at hash keys s (branch_path here.position n) ≡ option_map (at_branch here n) (slice_get (branches c) j)) (sym z) (f j) }
+  known_from here c f =
+      record {
+        at =
+            λ j.
+            let z : 0 + j ≡ j = omega arith in
+            subst (λ (n : ℕ). end_at hash keys s (branch_path here.position n) ≡ option_map (at_branch here n) (slice_get (branches c) j)) (sym z) (f j);
+      }
 
   -- the parts from number k on are those that stand there
   pub record KnownParts (path : List PathStep) (made : Unsigned) (k : ℕ) (rest : Parts) : Type 0 where
@@ -112,11 +125,20 @@ module _ (hash : List ℕ → List ℕ) (keys : Keys) (s : Instance) where
 
   pub part_here : (path : List PathStep) (made : Unsigned) (k v : ℕ) (c : Contract) (ps : Parts) → KnownParts path made k (part v c ps)
       → end_at hash keys s (part_position path k) ≡ Some (at_position (part_standing hash keys s path made k v c) c)
-  part_here path made k v c ps h = let z : k + 0 ≡ k = omega arith in subst (λ (n : ℕ). end_at hash keys s (part_position path n) ≡ Some (at_position (part_standing hash keys s path made n v c) c)) z (h.at 0)
+  part_here path made k v c ps h =
+      let z : k + 0 ≡ k = omega arith in
+      subst (λ (n : ℕ). end_at hash keys s (part_position path n) ≡ Some (at_position (part_standing hash keys s path made n v c) c)) z (h.at 0)
 
   pub part_more : (path : List PathStep) (made : Unsigned) (k v : ℕ) (c : Contract) (ps : Parts) → KnownParts path made k (part v c ps)
       → KnownParts path made (k + 1) ps
-  part_more path made k v c ps h = record { at = λ j. let z : k + suc j ≡ k + 1 + j = omega arith in subst (λ (n : ℕ). end_at hash keys s (part_position path n) ≡ option_map (λ (p : ℕ × Contract). at_position (part_standing hash keys s path made n p.0 p.1) p.1) (slice_get (parts_list ps) j)) z (h.at (suc j)) }
+  part_more path made k v c ps h =
+      record {
+        at =
+            λ j.
+            let z : k + suc j ≡ k + 1 + j = omega arith in
+            subst (λ (n : ℕ). end_at hash keys s (part_position path n) ≡ option_map
+            (λ (p : ℕ × Contract). at_position (part_standing hash keys s path made n p.0 p.1) p.1) (slice_get (parts_list ps) j)) z (h.at (suc j));
+      }
 
   pub known_continued : (here : Standing) (i : ℕ) (w : term.Guarded) (puts reveals : List (List ℕ)) (test : Pred) (next : Contract)
       → end_at hash keys s (branch_path here.position i) ≡ Some (at_branch here i w) → core w ≡ put_reveal puts reveals test next

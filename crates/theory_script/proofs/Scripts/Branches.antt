@@ -251,7 +251,8 @@ abbrev asked : List (List ℕ) → Pred → List Item → Option (List ℕ × Li
 asked names test alt None = None
 asked names test alt (Some p) = if holds (lengths_of names p.0) test then Some (stacks p.1 alt) else None
 
-module _ (hash : Item → Item) (valid : Item → Item → Bool) (names : List (List ℕ)) (digests : List Item) (test : Pred) (writable : IsWritable names digests test) where
+module _ (hash : Item → Item) (valid : Item → Item → Bool)
+    (names : List (List ℕ)) (digests : List Item) (test : Pred) (writable : IsWritable names digests test) where
   verify_runs : (b : Bool) (m alt : List Item) → free_run hash valid (Code 0x69 ∷ []) (stacks (item_of_number (number_of_bool b) ∷ m) alt)
       ≡ (if b then Some (stacks m alt) else None)
   verify_runs b m alt = rw (truth_of_number b) (verified b m alt)

@@ -43,7 +43,8 @@ pub record Sees (names : List (List ℕ)) (lens : List (List ℕ × ℕ)) (d : �
 pub deeper : (names : List (List ℕ)) (lens : List (List ℕ × ℕ)) (d : ℕ) (m : List Item) (x : Item) → Sees names lens d m → Sees names lens (d + 1) (x ∷ m)
 deeper names lens d m x sees = record { at = λ a h. let e : d + 1 + place_in names a ≡ suc (d + place_in names a) = omega arith in rw e (sees.at a h) }
 
-module _ (hash : Item → Item) (valid : Item → Item → Bool) (names : List (List ℕ)) (lens : List (List ℕ × ℕ)) (short : (a : List ℕ) → length_in lens a ≤ 504) where
+module _ (hash : Item → Item) (valid : Item → Item → Bool)
+    (names : List (List ℕ)) (lens : List (List ℕ × ℕ)) (short : (a : List ℕ) → length_in lens a ≤ 504) where
   length_runs : (a : List ℕ) (d : ℕ) (m alt : List Item) → is_among a names ≡ true → d + 2 + length names ≤ 2147483647 → Sees names lens d m
       → free_run hash valid (formula_ops names d (length_of a)) (stacks m alt) ≡ Some (stacks (item_of_number (value lens (length_of a)) ∷ m) alt)
   length_runs a d m alt known fits sees =

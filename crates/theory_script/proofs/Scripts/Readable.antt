@@ -61,7 +61,8 @@ if_taken hash (digest ∷ digests) (x ∷ m) = taken_one hash digest x digests m
 
 -- ---- one branch
 
-record UnlocksBranch (hash : Item → Item) (valid : Item → Item → Bool) (names : List (List ℕ)) (digests : List Item) (test : Pred) (keys m : List Item) : Type 0 where
+record UnlocksBranch (hash : Item → Item)
+    (valid : Item → Item → Bool) (names : List (List ℕ)) (digests : List Item) (test : Pred) (keys m : List Item) : Type 0 where
   secrets : List Item
   signatures : List Item
   is_stack : m ≡ secrets ++ signatures
@@ -174,7 +175,9 @@ module _ (hash : Item → Item) (valid : Item → Item → Bool) where
       by_truth : (t : Bool) → truth x ≡ t → (if t then branch_meets hash valid b m else position_meets hash valid (next ∷ branches) m)
           ≡ true → (position_meets hash valid (next ∷ branches) m ≡ true → Unlocks hash valid (next ∷ branches) m)
           → Unlocks hash valid (b ∷ (next ∷ branches)) (x ∷ m)
-      by_truth true e h ih = unlocks_first b (next ∷ branches) (x ∷ []) m (branch_unlocked hash valid b.names b.digests b.test b.keys m plain.0 h) (let y : nat_lt (0 + 1) (length (b ∷ (next ∷ branches))) ≡ true = grind arith in rw (y, e))
+      by_truth true e h ih =
+          unlocks_first b (next ∷ branches) (x ∷ []) m (branch_unlocked hash valid b.names b.digests b.test b.keys m plain.0 h)
+          (let y : nat_lt (0 + 1) (length (b ∷ (next ∷ branches))) ≡ true = grind arith in rw (y, e))
       by_truth false e h ih = unlocks_next b (next ∷ branches) x m e (ih h)
 
   same_branch : (b c : Demands) (m : List Item) → Some b ≡ Some c → branch_meets hash valid c m ≡ true → branch_meets hash valid b m ≡ true

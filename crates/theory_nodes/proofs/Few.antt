@@ -37,7 +37,8 @@ mutual
       let e = few_parts parts (and_parts (is_readable_split parts) (are_readable_parts parts) r).1 in
       omega (arith, e)
   few_under (put_reveal puts reveals test next) r =
-      let p = (and_parts (is_whole_prefix puts reveals test && (list_all is_name puts && list_all is_name reveals)) (is_readable_test test && (is_readable_count next && are_readable next)) r).1 in
+      let p = (and_parts (is_whole_prefix puts reveals test && (list_all is_name puts && list_all is_name reveals))
+      (is_readable_test test && (is_readable_count next && are_readable next)) r).1 in
       let q = and_parts (is_readable_count next) (are_readable next) (and_parts (is_readable_test test) (is_readable_count next && are_readable next) p).1 in
       let e = few_branches next q.1 in
       let h = one_head next q.0 in

@@ -42,7 +42,8 @@ module _ (hash : List ℕ → List ℕ) (keys : Keys) (s : Instance) (ns : List 
       let head = branch_node path (asks_once x) (lock x) (deed_of (n + 1) (core x)) in
       let whole : Begins ns n (head ∷ below_nodes path (n + 1) (core x)) = rw branch_nodes-core at (begins_left ns n here others b) in
       let got = begins_get ns n head (below_nodes path (n + 1) (core x)) whole in
-      let rest = demands_right position (i + 1) (n + branch_count x) xs (begins_right ns n (branch_count x) here others (length-branch_nodes path n (asks_once x) (lock x) x) b) in
+      let rest = demands_right position (i + 1)
+      (n + branch_count x) xs (begins_right ns n (branch_count x) here others (length-branch_nodes path n (asks_once x) (lock x) x) b) in
       λ j. (ap (node_demands hash keys s) got ∙ core_demands (n + 1) (core x) (branch_keys hash keys s path)) j ∷ rest j
 
   pub script_right : (position : List PathStep) (n : ℕ) (c : Contract) → Begins ns n (choice_nodes position n c)
@@ -70,7 +71,8 @@ module _ (hash : List ℕ → List ℕ) (keys : Keys) (s : Instance) (ns : List 
       let here = choice_nodes (part_position path k) n c in
       let others = parts_nodes path (k + 1) (n + choice_count c) ps in
       let first = pays_right (part_position path k) n v c (begins_left ns n here others b) in
-      let rest = outputs_right path (k + 1) (n + choice_count c) ps (begins_right ns n (choice_count c) here others (length-choice_nodes (part_position path k) n c) b) in
+      let rest = outputs_right path (k + 1) (n + choice_count c) ps
+      (begins_right ns n (choice_count c) here others (length-choice_nodes (part_position path k) n c) b) in
       λ j. first j ∷ rest j
 
   choice_under : (position : List PathStep) (n : ℕ) (c : Contract) → Begins ns n (choice_nodes position n c)
@@ -109,12 +111,18 @@ module _ (hash : List ℕ → List ℕ) (keys : Keys) (s : Instance) (ns : List 
         let deed = deed_of (n + 1) (put_reveal puts reveals test next) in
         let below = begins_right ns n 1 (branch_node path asked height deed ∷ []) (choice_nodes path (n + 1) next) refl b in
         let value = continued_value s w.value puts in
-        let made : node_unsigned hash keys s script w height deed ≡ core_unsigned hash keys s (standing position w) i height (put_reveal puts reveals test next) =
+        let made : node_unsigned hash keys s script w height deed
+        ≡ core_unsigned hash keys s (standing position w) i height (put_reveal puts reveals test next) =
         λ j. record { spends = spent_of script w ∷ put_deposits hash keys s puts; outputs = pays_right path (n + 1) value next below j ∷ []; lock = height } in
         let here : standing path (record { outpoint = output_outpoint hash (node_unsigned hash keys s script w height deed) 0; choice = n + 1; value = value })
         ≡ continued hash keys s path (core_unsigned hash keys s (standing position w) i height (put_reveal puts reveals test next)) value next =
-        λ j. record { position = path; output = record { outpoint = output_outpoint hash (made j) 0; script = script_right path (n + 1) next below j; value = value } } in
-        let rest = branches_walk path 0 (n + 1 + 1) next (record { outpoint = output_outpoint hash (node_unsigned hash keys s script w height deed) 0; choice = n + 1; value = value }) stack ys (choice_under path (n + 1) next below)
+        λ j. record {
+          position = path;
+          output = record { outpoint = output_outpoint hash (made j) 0; script = script_right path (n + 1) next below j; value = value };
+        } in
+        let rest = branches_walk path 0 (n + 1 + 1) next
+        (record { outpoint = output_outpoint hash (node_unsigned hash keys s script w height deed) 0; choice = n + 1; value = value }) stack ys
+        (choice_under path (n + 1) next below)
         ∙ ap (λ x. choice_transactions hash keys s x 0 next ++ walk hash keys s script ys stack) here in
         λ j. (path, made j) ∷ rest j
     branch_walk position i n asked height (split parts) w stack ys b =
@@ -222,7 +230,8 @@ module _ (hash : List ℕ → List ℕ) (keys : Keys) (s : Instance) (ns : List 
     scripts_of_branch path n m asked height (after h body) ys e b = scripts_of_branch path n m asked height body ys e b
     scripts_of_branch path n m asked height (withdraw party) ys e b = ap (λ k. listed_scripts script k ys) (sym e)
     scripts_of_branch path n m asked height (put_reveal puts reveals test next) ys e b =
-        let below = begins_right ns n 1 (branch_node path asked height (deed_of (n + 1) (put_reveal puts reveals test next)) ∷ []) (choice_nodes path (n + 1) next) refl b in
+        let below = begins_right ns n 1 (branch_node path asked height (deed_of (n + 1) (put_reveal puts reveals test next)) ∷ [])
+        (choice_nodes path (n + 1) next) refl b in
         let rest = scripts_of_branches path 0 (n + 1 + 1) m next ys (omega (arith, e)) (choice_under path (n + 1) next below) in
         λ j. (path, script_right path (n + 1) next below j) ∷ rest j
     scripts_of_branch path n m asked height (split parts) ys e b =
@@ -256,7 +265,14 @@ transactions_walked hash keys s =
     let root = s.advert.root in
     let ns = nodes_of root in
     let here : standing hash keys s ns [] (root_waits hash keys s) ≡ root_standing hash keys s =
-    λ j. record { position = []; output = record { outpoint = output_outpoint hash (initial_unsigned hash keys s) 0; script = script_right hash keys s ns [] 0 root (whole root) j; value = root_value s } } in
+    λ j. record {
+      position = [];
+      output = record {
+        outpoint = output_outpoint hash (initial_unsigned hash keys s) 0;
+        script = script_right hash keys s ns [] 0 root (whole root) j;
+        value = root_value s;
+      };
+    } in
     ap (λ l. walk hash keys s (script_of hash keys s ns) l (root_waits hash keys s ∷ [])) (sym (append-nil ns))
     ∙ choice_walk hash keys s ns [] 0 root (root_waits hash keys s) [] [] (whole root)
     ∙ append-nil (choice_transactions hash keys s (standing hash keys s ns [] (root_waits hash keys s)) 0 root)

@@ -70,7 +70,8 @@ entries_again [] p (suc n) room rest h d s le =
 entries_again (q ∷ ps) p (suc n) room rest h d s le =
     let r = roomy p (q ∷ ps) room d s in
     let u : List Lexeme = entry q ++ (more_entries ps ++ symbol mark.RightBrace ∷ rest) in
-    let text : entry p ++ (more_entries (q ∷ ps) ++ symbol mark.RightBrace ∷ rest) ≡ entry p ++ symbol mark.Bar ∷ u = ap (λ (z : List Lexeme). entry p ++ symbol mark.Bar ∷ z) (append_assoc (entry q) (more_entries ps) (symbol mark.RightBrace ∷ rest)) in
+    let text : entry p ++ (more_entries (q ∷ ps) ++ symbol mark.RightBrace ∷ rest) ≡ entry p ++ symbol mark.Bar ∷ u =
+    ap (λ (z : List Lexeme). entry p ++ symbol mark.Bar ∷ z) (append_assoc (entry q) (more_entries ps) (symbol mark.RightBrace ∷ rest)) in
     let one = entry_again p room (symbol mark.Bar ∷ u) (and_left (is_readable_entry p) _ h) r.open' in
     let more = entries_again ps q n (room_after (kind_of p) room) rest (and_right (is_readable_entry p) _ h) r.deposits' r.secrets' (omega arith) in
     ap (entries_at (suc n) room) text ∙ bar_entry n room (room_after (kind_of p) room) (entry p ++ symbol mark.Bar ∷ u) u p (q ∷ ps) rest one more
@@ -88,11 +89,15 @@ pre_again [] t rest l h = absurd l
 pre_again (p ∷ ps) t rest l h =
     let first : (is_some_list (p ∷ ps) && list_all is_readable_entry (p ∷ ps)) ≡ true = and_left _ _ h in
     let all : list_all is_readable_entry (p ∷ ps) ≡ true = and_right (is_some_list (p ∷ ps)) _ first in
-    let second : (nat_le (length (deposits (p ∷ ps))) most_deposits && nat_le (length (secrets (p ∷ ps))) most_secrets) ≡ true = and_right (is_some_list (p ∷ ps) && list_all is_readable_entry (p ∷ ps)) _ h in
+    let second : (nat_le (length (deposits (p ∷ ps))) most_deposits && nat_le (length (secrets (p ∷ ps))) most_secrets) ≡ true =
+    and_right (is_some_list (p ∷ ps) && list_all is_readable_entry (p ∷ ps)) _ h in
     let d = leb-true (length (deposits (p ∷ ps))) most_deposits (and_left _ _ second) in
     let s = leb-true (length (secrets (p ∷ ps))) most_secrets (and_right (nat_le (length (deposits (p ∷ ps))) most_deposits) _ second) in
     let count = entry_count (p ∷ ps) in
-    let text : t ++ rest ≡ symbol mark.LeftBrace ∷ (entry p ++ (more_entries ps ++ symbol mark.RightBrace ∷ rest)) = ap (λ (z : List Lexeme). z ++ rest) l ∙ ap (λ (z : List Lexeme). symbol mark.LeftBrace ∷ z) (append_assoc (entry p) (more_entries ps ++ symbol mark.RightBrace ∷ []) rest ∙ ap (λ (z : List Lexeme). entry p ++ z) (append_assoc (more_entries ps) (symbol mark.RightBrace ∷ []) rest)) in (
+    let text : t ++ rest ≡ symbol mark.LeftBrace ∷ (entry p ++ (more_entries ps ++ symbol mark.RightBrace ∷ rest)) =
+    ap (λ (z : List Lexeme). z ++ rest) l
+    ∙ ap (λ (z : List Lexeme). symbol mark.LeftBrace ∷ z) (append_assoc (entry p) (more_entries ps ++ symbol mark.RightBrace ∷ []) rest
+    ∙ ap (λ (z : List Lexeme). entry p ++ z) (append_assoc (more_entries ps) (symbol mark.RightBrace ∷ []) rest)) in (
       entry p ++ (more_entries ps ++ symbol mark.RightBrace ∷ rest),
       text,
       entries_again ps p (most_deposits + most_secrets)
@@ -122,7 +127,8 @@ root_again : (root : Contract) (t : List Lexeme) → SpellsChoice t root → is_
     → choice_with (branch_at most_depth) most_depth most_branches t ≡ Ok ((root, most_branches - count_of root), [])
 root_again root t l h =
     let first : (is_readable_count root && are_readable root) ≡ true = and_left _ _ h in
-    let second : (nat_le (depth_of_choice root) most_depth && nat_le (count_of root) most_branches) ≡ true = and_right (is_readable_count root && are_readable root) _ h in
+    let second : (nat_le (depth_of_choice root) most_depth && nat_le (count_of root) most_branches) ≡ true =
+    and_right (is_readable_count root && are_readable root) _ h in
     let d = leb-true (depth_of_choice root) most_depth (and_left _ _ second) in
     let b = leb-true (count_of root) most_branches (and_right (nat_le (depth_of_choice root) most_depth) _ second) in
     ap (choice_with (branch_at most_depth) most_depth most_branches) (sym (append-nil t))

@@ -55,8 +55,11 @@ mutual
       let none : b ≡ b - 0 = omega arith in
       ap (λ (u : List Lexeme). branch_at (suc d) b (u ++ rest)) l ∙ withdraw_step d b party rest ∙ ap (λ (m : ℕ). read_as (withdraw party, m) rest) none
   branch_again (split parts) (suc d) b t rest l h le lb =
-      let counted : nat_le (length (parts_list parts)) most_parts ≡ true = and_right (is_some_list (parts_list parts)) _ (and_left (is_readable_split parts) _ h) in
-      let text : t ++ rest ≡ keyword word.Split ∷ symbol mark.LeftBracket ∷ (l.0 ++ symbol mark.RightBracket ∷ rest) = ap (λ (u : List Lexeme). u ++ rest) l.1 ∙ ap (λ (u : List Lexeme). keyword word.Split ∷ symbol mark.LeftBracket ∷ u) (append_assoc l.0 (symbol mark.RightBracket ∷ []) rest) in
+      let counted : nat_le (length (parts_list parts)) most_parts ≡ true =
+      and_right (is_some_list (parts_list parts)) _ (and_left (is_readable_split parts) _ h) in
+      let text : t ++ rest ≡ keyword word.Split ∷ symbol mark.LeftBracket ∷ (l.0 ++ symbol mark.RightBracket ∷ rest) =
+      ap (λ (u : List Lexeme). u ++ rest) l.1
+      ∙ ap (λ (u : List Lexeme). keyword word.Split ∷ symbol mark.LeftBracket ∷ u) (append_assoc l.0 (symbol mark.RightBracket ∷ []) rest) in
       let one = parts_again parts d most_parts b l.0 rest l.2 (and_right (is_readable_split parts) _ h) (omega arith) lb (leb-true _ _ counted) in
       ap (branch_at (suc d) b) text ∙ split_step d b (l.0 ++ symbol mark.RightBracket ∷ rest) parts (b - count_of_parts parts) rest one
 
@@ -76,7 +79,10 @@ mutual
       let deep = left_max (depth_of g) (depth_of_choice bs) d le in
       let some = some_depth g in
       let counted : nat_le (suc (length (branches bs))) most_choices ≡ true = k in
-      let text : t ++ rest ≡ symbol mark.LeftParen ∷ (w.0 ++ (w.1 ++ symbol mark.RightParen ∷ rest)) = ap (λ (u : List Lexeme). u ++ rest) w.2 ∙ ap (λ (u : List Lexeme). symbol mark.LeftParen ∷ u) (append_assoc w.0 (w.1 ++ symbol mark.RightParen ∷ []) rest ∙ ap (λ (u : List Lexeme). w.0 ++ u) (append_assoc w.1 (symbol mark.RightParen ∷ []) rest)) in
+      let text : t ++ rest ≡ symbol mark.LeftParen ∷ (w.0 ++ (w.1 ++ symbol mark.RightParen ∷ rest)) =
+      ap (λ (u : List Lexeme). u ++ rest) w.2
+      ∙ ap (λ (u : List Lexeme). symbol mark.LeftParen ∷ u) (append_assoc w.0 (w.1 ++ symbol mark.RightParen ∷ []) rest
+      ∙ ap (λ (u : List Lexeme). w.0 ++ u) (append_assoc w.1 (symbol mark.RightParen ∷ []) rest)) in
       ap (choice_with (branch_at d) d b) text ∙ open_step (branch_at d) d b (w.0 ++ (w.1 ++ symbol mark.RightParen ∷ rest))
       ∙ more_again bs d most_choices b w.0 w.1 rest g (λ c r lc. branch_again g d c w.0 r w.3 (and_left (is_readable_branch g) _ h) deep lc)
       (omega (arith, deep, some)) w.4 (and_right (is_readable_branch g) _ h) (right_max (depth_of g) (depth_of_choice bs) d le) lb (leb-true _ _ counted)
@@ -86,7 +92,8 @@ mutual
       → branches_at (branch_at d) d k b (tb ++ (tm ++ symbol mark.RightParen ∷ rest)) ≡ Ok ((branch g bs, b - (count_under g + 1 + count_of bs)), rest)
   more_again bs d zero b tb tm rest g hg ld l h le lb lk = absurd (omega arith)
   more_again no_branch d (suc k) b tb tm rest g hg ld l h le lb lk =
-      let text : tb ++ (tm ++ symbol mark.RightParen ∷ rest) ≡ tb ++ symbol mark.RightParen ∷ rest = ap (λ (u : List Lexeme). tb ++ (u ++ symbol mark.RightParen ∷ rest)) l in
+      let text : tb ++ (tm ++ symbol mark.RightParen ∷ rest) ≡ tb ++ symbol mark.RightParen ∷ rest =
+      ap (λ (u : List Lexeme). tb ++ (u ++ symbol mark.RightParen ∷ rest)) l in
       let one = hg (b - 1) (symbol mark.RightParen ∷ rest) (omega arith) in
       let same : (b - 1) - count_under g ≡ b - (count_under g + 1 + 0) = omega arith in
       ap (branches_at (branch_at d) d (suc k) b) text
@@ -94,11 +101,14 @@ mutual
       (no_limit d b (suc k) ld (omega arith) (omega arith)) one ∙ ap (λ (m : ℕ). read_as (branch g no_branch, m) rest) same
   more_again (branch e bs) d (suc k) b tb tm rest g hg ld l h le lb lk =
       let u : List Lexeme = l.0 ++ (l.1 ++ symbol mark.RightParen ∷ rest) in
-      let text : tb ++ (tm ++ symbol mark.RightParen ∷ rest) ≡ tb ++ symbol mark.Plus ∷ u = ap (λ (z : List Lexeme). tb ++ (z ++ symbol mark.RightParen ∷ rest)) l.2 ∙ ap (λ (z : List Lexeme). tb ++ symbol mark.Plus ∷ z) (append_assoc l.0 l.1 (symbol mark.RightParen ∷ rest)) in
+      let text : tb ++ (tm ++ symbol mark.RightParen ∷ rest) ≡ tb ++ symbol mark.Plus ∷ u =
+      ap (λ (z : List Lexeme). tb ++ (z ++ symbol mark.RightParen ∷ rest)) l.2
+      ∙ ap (λ (z : List Lexeme). tb ++ symbol mark.Plus ∷ z) (append_assoc l.0 l.1 (symbol mark.RightParen ∷ rest)) in
       let one = hg (b - 1) (symbol mark.Plus ∷ u) (omega arith) in
       let deep = left_max (depth_of e) (depth_of_choice bs) d le in
       let n = (b - 1) - count_under g in
-      let more = more_again bs d k n l.0 l.1 rest e (λ c r lc. branch_again e d c l.0 r l.3 (and_left (is_readable_branch e) _ h) deep lc) ld l.4 (and_right (is_readable_branch e) _ h) (right_max (depth_of e) (depth_of_choice bs) d le) (omega arith) (omega arith) in
+      let more = more_again bs d k n l.0 l.1 rest e (λ c r lc. branch_again e d c l.0 r l.3 (and_left (is_readable_branch e) _ h) deep lc) ld l.4
+      (and_right (is_readable_branch e) _ h) (right_max (depth_of e) (depth_of_choice bs) d le) (omega arith) (omega arith) in
       let same : n - (count_under e + 1 + count_of bs) ≡ b - (count_under g + 1 + (count_under e + 1 + count_of bs)) = omega arith in
       ap (branches_at (branch_at d) d (suc k) b) text
       ∙ plus_step (branch_at d) d k b (tb ++ symbol mark.Plus ∷ u) u g n (branch e bs) (n - (count_under e + 1 + count_of bs)) rest
@@ -113,8 +123,11 @@ mutual
   parts_again (part v c ps) d (suc k) b t rest l h le lb lk =
       let first : (nat_le v max_money && (is_readable_count c && are_readable c)) ≡ true = and_left _ _ h in
       let second : (is_readable_count c && are_readable c) ≡ true = and_right (nat_le v max_money) _ first in
-      let text : t ++ symbol mark.RightBracket ∷ rest ≡ number v ∷ symbol mark.Arrow ∷ (l.0 ++ (l.1 ++ symbol mark.RightBracket ∷ rest)) = ap (λ (u : List Lexeme). u ++ symbol mark.RightBracket ∷ rest) l.2 ∙ ap (λ (u : List Lexeme). number v ∷ symbol mark.Arrow ∷ u) (append_assoc l.0 l.1 (symbol mark.RightBracket ∷ rest)) in
-      let one = choice_again c d b l.0 (l.1 ++ symbol mark.RightBracket ∷ rest) l.3 (and_left (is_readable_count c) _ second) (and_right (is_readable_count c) _ second) (left_max (depth_of_choice c) (depth_of_parts ps) d le) (omega arith) in
+      let text : t ++ symbol mark.RightBracket ∷ rest ≡ number v ∷ symbol mark.Arrow ∷ (l.0 ++ (l.1 ++ symbol mark.RightBracket ∷ rest)) =
+      ap (λ (u : List Lexeme). u ++ symbol mark.RightBracket ∷ rest) l.2
+      ∙ ap (λ (u : List Lexeme). number v ∷ symbol mark.Arrow ∷ u) (append_assoc l.0 l.1 (symbol mark.RightBracket ∷ rest)) in
+      let one = choice_again c d b l.0 (l.1 ++ symbol mark.RightBracket ∷ rest) l.3 (and_left (is_readable_count c) _ second)
+      (and_right (is_readable_count c) _ second) (left_max (depth_of_choice c) (depth_of_parts ps) d le) (omega arith) in
       let n = b - count_of c in
       let same : n - count_of_parts ps ≡ b - (count_of c + count_of_parts ps) = omega arith in
       ap (parts_at (choice_with (branch_at d) d) (suc k) b) text

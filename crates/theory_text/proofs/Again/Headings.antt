@@ -58,7 +58,8 @@ condition_again : (b : Bool) (t rest : List Lexeme) (p : Pred) → Condition b t
 unfolding condition_at
 condition_again false t rest p s h = rw (s.empty, s.same) refl
 condition_again true t rest p s h =
-    let text : t ++ rest ≡ s.first ++ symbol mark.Dot ∷ rest = rw (s.parts, s.back.parts, s.back.prefix.single, s.back.back.empty) (append_assoc s.first (symbol mark.Dot ∷ []) rest) in
+    let text : t ++ rest ≡ s.first ++ symbol mark.Dot ∷ rest =
+    rw (s.parts, s.back.parts, s.back.prefix.single, s.back.back.empty) (append_assoc s.first (symbol mark.Dot ∷ []) rest) in
     let h' : is_readable_test s.value ≡ true = subst (λ (z : Pred). is_readable_test z ≡ true) (sym s.back.back.same) h in
     let one = test_again s.value s.first (symbol mark.Dot ∷ rest) s.prefix h' in
     rw (text, one, s.back.back.same) refl
@@ -67,7 +68,8 @@ pub reveals_again : (puts : List (List ℕ)) (t rest : List Lexeme) (h : Heading
     → reveals_at puts (t ++ rest) ≡ Ok (h, rest)
 unfolding reveals_at
 reveals_again puts t rest h s k =
-    let text : t ++ rest ≡ s.first ++ (s.back.first ++ rest) = rw (s.parts, s.back.parts, s.back.back.empty, append-nil s.back.first) (append_assoc s.first s.back.first rest) in
+    let text : t ++ rest ≡ s.first ++ (s.back.first ++ rest) =
+    rw (s.parts, s.back.parts, s.back.back.empty, append-nil s.back.first) (append_assoc s.first s.back.first rest) in
     let k' : is_readable_test s.back.value ≡ true = subst (λ (z : Heading). is_readable_test (z.2) ≡ true) (sym s.back.back.same) k in
     let one = names_again reveal_token ends_reveal reveal_ends s.first s.value.0 s.value.1 (s.back.first ++ rest) s.prefix in
     let two = condition_again s.value.1 s.back.first rest s.back.value s.back.prefix k' in

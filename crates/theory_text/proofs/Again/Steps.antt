@@ -61,11 +61,13 @@ pub headed_step : (d b : ℕ) (th tn : List Lexeme) (puts reveals : List (List �
 headed_step d b [] tn puts reveals test c n rest l k h = absurd (heading_nothing puts reveals test l)
 headed_step d b (keyword word.Put ∷ u) tn puts reveals test c n rest l k h =
     let text : u ++ symbol mark.Dot ∷ tn ≡ (u ++ symbol mark.Dot ∷ []) ++ tn = sym (append_assoc u (symbol mark.Dot ∷ []) tn) in
-    let one : puts_at (u ++ symbol mark.Dot ∷ tn) ≡ Ok ((puts, reveals, test), tn) = ap puts_at text ∙ puts_again (u ++ symbol mark.Dot ∷ []) tn (puts, reveals, test) (put_from u puts reveals test l) k in
+    let one : puts_at (u ++ symbol mark.Dot ∷ tn) ≡ Ok ((puts, reveals, test), tn) =
+    ap puts_at text ∙ puts_again (u ++ symbol mark.Dot ∷ []) tn (puts, reveals, test) (put_from u puts reveals test l) k in
     put_step d b (u ++ symbol mark.Dot ∷ tn) tn (puts, reveals, test) c n rest one h
 headed_step d b (keyword word.Reveal ∷ u) tn puts reveals test c n rest l k h =
     let text : u ++ symbol mark.Dot ∷ tn ≡ (u ++ symbol mark.Dot ∷ []) ++ tn = sym (append_assoc u (symbol mark.Dot ∷ []) tn) in
-    let one : reveals_at [] (u ++ symbol mark.Dot ∷ tn) ≡ Ok ((puts, reveals, test), tn) = ap (reveals_at []) text ∙ reveals_again [] (u ++ symbol mark.Dot ∷ []) tn (puts, reveals, test) (reveal_from u puts reveals test l) k in
+    let one : reveals_at [] (u ++ symbol mark.Dot ∷ tn) ≡ Ok ((puts, reveals, test), tn) =
+    ap (reveals_at []) text ∙ reveals_again [] (u ++ symbol mark.Dot ∷ []) tn (puts, reveals, test) (reveal_from u puts reveals test l) k in
     reveal_step d b (u ++ symbol mark.Dot ∷ tn) tn (puts, reveals, test) c n rest one h
 headed_step d b (x ∷ u) tn puts reveals test c n rest l k h = let e = heading_first x u puts reveals test l in absurd cc
 
@@ -88,7 +90,8 @@ pub last_step : (read : BranchReader) (d k b : ℕ) (t : List Lexeme) (g : Guard
     ≡ None → read (b - 1) t ≡ Ok ((g, n), symbol mark.RightParen ∷ rest) → branches_at read d (suc k) b t ≡ Ok ((branch g no_branch, n), rest)
 unfolding branches_at
 last_step read d k b t g n rest m h =
-    let one : allowed_branch read (branch_limit d b (suc k)) b t ≡ Ok ((g, n), symbol mark.RightParen ∷ rest) = ap (λ (o : Option Limit). allowed_branch read o b t) m ∙ h in
+    let one : allowed_branch read (branch_limit d b (suc k)) b t ≡ Ok ((g, n), symbol mark.RightParen ∷ rest) =
+    ap (λ (o : Option Limit). allowed_branch read o b t) m ∙ h in
     rw one refl
 
 pub plus_step : (read : BranchReader) (d k b : ℕ) (t u : List Lexeme) (g : Guarded) (n : ℕ) (bs : Contract) (m : ℕ) (rest : List Lexeme)
@@ -96,7 +99,8 @@ pub plus_step : (read : BranchReader) (d k b : ℕ) (t u : List Lexeme) (g : Gua
     → branches_at read d (suc k) b t ≡ Ok ((branch g bs, m), rest)
 unfolding branches_at
 plus_step read d k b t u g n bs m rest z h more =
-    let one : allowed_branch read (branch_limit d b (suc k)) b t ≡ Ok ((g, n), symbol mark.Plus ∷ u) = ap (λ (o : Option Limit). allowed_branch read o b t) z ∙ h in
+    let one : allowed_branch read (branch_limit d b (suc k)) b t ≡ Ok ((g, n), symbol mark.Plus ∷ u) =
+    ap (λ (o : Option Limit). allowed_branch read o b t) z ∙ h in
     rw (one, more) refl
 
 pub open_step : (read : BranchReader) (d b : ℕ) (t : List Lexeme) → choice_with read d b (symbol mark.LeftParen ∷ t) ≡ branches_at read d most_choices b t
@@ -133,7 +137,8 @@ part_step no_part read k b v t tm c n rest z l h more =
     let none : n ≡ n - 0 = omega arith in
     last_part read k b v t c n rest z one ∙ ap (λ (m : ℕ). read_as (part v c no_part, m) rest) none
 part_step (part w e ps) read k b v t tm c n rest z l h more =
-    let one : read b t ≡ Ok ((c, n), symbol mark.Comma ∷ ((number w ∷ symbol mark.Arrow ∷ (l.0 ++ l.1)) ++ symbol mark.RightBracket ∷ rest)) = h ∙ ap (λ (x : List Lexeme). read_as (c, n) (x ++ symbol mark.RightBracket ∷ rest)) l.2 in
+    let one : read b t ≡ Ok ((c, n), symbol mark.Comma ∷ ((number w ∷ symbol mark.Arrow ∷ (l.0 ++ l.1)) ++ symbol mark.RightBracket ∷ rest)) =
+    h ∙ ap (λ (x : List Lexeme). read_as (c, n) (x ++ symbol mark.RightBracket ∷ rest)) l.2 in
     comma_part read k b v t ((number w ∷ symbol mark.Arrow ∷ (l.0 ++ l.1)) ++ symbol mark.RightBracket ∷ rest) c n (part w e ps)
     (n - count_of_parts (part w e ps)) rest z one
     (more (number w ∷ symbol mark.Arrow ∷ (l.0 ++ l.1)) (l.0, l.1, refl, l.3, l.4))

@@ -37,13 +37,15 @@ formula_again (constant n) (suc d) t rest l h le = ap (λ (u : List Lexeme). for
 formula_again (length_of x) (suc d) t rest l h le = ap (λ (u : List Lexeme). formula_at (suc d) (u ++ rest)) l ∙ refl
 formula_again (plus e f) (suc d) t rest l h le =
     let m = max_parts (formula_depth e) (formula_depth f) d le in
-    let is : t ++ rest ≡ symbol mark.LeftParen ∷ (l.0 ++ (symbol mark.Plus ∷ (l.1 ++ (symbol mark.RightParen ∷ rest)))) = ap (λ (u : List Lexeme). u ++ rest) l.2 ∙ ap (λ (u : List Lexeme). symbol mark.LeftParen ∷ u) (simp append_assoc) in
+    let is : t ++ rest ≡ symbol mark.LeftParen ∷ (l.0 ++ (symbol mark.Plus ∷ (l.1 ++ (symbol mark.RightParen ∷ rest)))) =
+    ap (λ (u : List Lexeme). u ++ rest) l.2 ∙ ap (λ (u : List Lexeme). symbol mark.LeftParen ∷ u) (simp append_assoc) in
     let one = formula_again e d l.0 (symbol mark.Plus ∷ (l.1 ++ (symbol mark.RightParen ∷ rest))) l.3 (and_left _ _ h) m.0 in
     let two = formula_again f d l.1 (symbol mark.RightParen ∷ rest) l.4 (and_right (is_readable_formula e) _ h) m.1 in
     ap (formula_at (suc d)) is ∙ rw (one, two) refl
 formula_again (minus e f) (suc d) t rest l h le =
     let m = max_parts (formula_depth e) (formula_depth f) d le in
-    let is : t ++ rest ≡ symbol mark.LeftParen ∷ (l.0 ++ (symbol mark.Minus ∷ (l.1 ++ (symbol mark.RightParen ∷ rest)))) = ap (λ (u : List Lexeme). u ++ rest) l.2 ∙ ap (λ (u : List Lexeme). symbol mark.LeftParen ∷ u) (simp append_assoc) in
+    let is : t ++ rest ≡ symbol mark.LeftParen ∷ (l.0 ++ (symbol mark.Minus ∷ (l.1 ++ (symbol mark.RightParen ∷ rest)))) =
+    ap (λ (u : List Lexeme). u ++ rest) l.2 ∙ ap (λ (u : List Lexeme). symbol mark.LeftParen ∷ u) (simp append_assoc) in
     let one = formula_again e d l.0 (symbol mark.Minus ∷ (l.1 ++ (symbol mark.RightParen ∷ rest))) l.3 (and_left _ _ h) m.0 in
     let two = formula_again f d l.1 (symbol mark.RightParen ∷ rest) l.4 (and_right (is_readable_formula e) _ h) m.1 in
     ap (formula_at (suc d)) is ∙ rw (one, two) refl
@@ -96,7 +98,8 @@ deep_again (negation p) (suc d) t rest l h le =
     ap (λ (u : List Lexeme). test_at (suc d) (u ++ rest)) l.1 ∙ rw one refl
 deep_again (both p q) (suc d) t rest l h le =
     let m = max_parts (test_depth p) (test_depth q) d le in
-    let is : t ++ rest ≡ symbol mark.LeftBracket ∷ (l.0 ++ (keyword word.And ∷ (l.1 ++ (symbol mark.RightBracket ∷ rest)))) = ap (λ (u : List Lexeme). u ++ rest) l.2 ∙ ap (λ (u : List Lexeme). symbol mark.LeftBracket ∷ u) (simp append_assoc) in
+    let is : t ++ rest ≡ symbol mark.LeftBracket ∷ (l.0 ++ (keyword word.And ∷ (l.1 ++ (symbol mark.RightBracket ∷ rest)))) =
+    ap (λ (u : List Lexeme). u ++ rest) l.2 ∙ ap (λ (u : List Lexeme). symbol mark.LeftBracket ∷ u) (simp append_assoc) in
     let one = deep_again p d l.0 (keyword word.And ∷ (l.1 ++ (symbol mark.RightBracket ∷ rest))) l.3 (and_left _ _ h) m.0 in
     let two = deep_again q d l.1 (symbol mark.RightBracket ∷ rest) l.4 (and_right (has_readable_formulas p) _ h) m.1 in
     ap (test_at (suc d)) is ∙ rw (one, two) refl

@@ -61,7 +61,8 @@ named_again : (x bytes : List ℕ) → Lacks (λ b. b == 61) x → IsBytes bytes
     → named digest (digest_text (x, bytes)) ≡ some (x, bytes)
 named_again x bytes lacks are name read =
     let parts : parts_of (λ b. b == 61) (x ++ 61 ∷ hex_text bytes) ≡ x ∷ hex_text bytes ∷ [] =
-    part_more (λ b. b == 61) x 61 (hex_text bytes) lacks refl ∙ ap (λ (ps : List (List ℕ)). x ∷ ps) (part_last (λ b. b == 61) (hex_text bytes) (hex_lacks (λ b. b == 61) bytes no_equal_sign are)) in
+    part_more (λ b. b == 61) x 61 (hex_text bytes) lacks refl
+    ∙ ap (λ (ps : List (List ℕ)). x ∷ ps) (part_last (λ b. b == 61) (hex_text bytes) (hex_lacks (λ b. b == 61) bytes no_equal_sign are)) in
     rw (parts, name, read) refl
 
 spaces_again : (a b bytes : List ℕ) → IsBytes bytes → Lacks is_space (a ++ 61 ∷ b) → Lacks is_space (a ++ 61 ∷ hex_text bytes)

@@ -89,7 +89,8 @@ line_again parties count line e short is c =
     let long = twins_long (words_of line) c.again c.twins in
     let fits = spaced_length line c.again (omega (arith, long.count, is.some')) long.bytes long.count in
     let cut = spaced_words c.again (twin_words (words_of line) c.again c.twins (line_words line)) in
-    let said : event_words parties count (words_of (spaced c.again)) ≡ an_event e = ap (event_words parties count) cut ∙ words_again parties count c.again e c.read is.room in
+    let said : event_words parties count (words_of (spaced c.again)) ≡ an_event e =
+    ap (event_words parties count) cut ∙ words_again parties count c.again e c.read is.room in
     let all = short_says (spaced c.again) (event_words parties count (words_of (spaced c.again))) (not_longer (spaced c.again) line fits short) ∙ said in
     ap (event_of_line parties count) c.text ∙ all
 

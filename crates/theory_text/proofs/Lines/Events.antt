@@ -94,7 +94,8 @@ authorise_said parties (a ∷ n ∷ b ∷ []) e h =
     let p = one_word parties a c.first c.is in
     let q = output_word n d.first d.is in
     let r = at_end (decimal f.first) b (small_word b f.first f.is) in
-    ap event_text (sym (some_is (events.Authorise c.first d.first f.first) e f.then')) ∙ (λ i. codes "authorise " ++ (p i ++ (codes " " ++ (q i ++ (codes " " ++ r i)))))
+    ap event_text (sym (some_is (events.Authorise c.first d.first f.first) e f.then'))
+    ∙ (λ i. codes "authorise " ++ (p i ++ (codes " " ++ (q i ++ (codes " " ++ r i)))))
 authorise_said parties (a ∷ n ∷ b ∷ x ∷ ws) e h = absurd (none_some e h)
 
 reveal_said : (parties words : List (List ℕ)) (e : Event) → reveal parties words ≡ some e → Said (codes "reveal") words e
@@ -107,7 +108,8 @@ reveal_said parties (k ∷ a ∷ x ∷ []) e h =
     let f = came (a_name x) (λ y. some (events.Reveal c.first d.first y)) e d.then' in
     let p = two_text c.first d.first k a (codes " " ++ f.first) (small_word k c.first c.is) (one_word parties a d.first d.is) in
     let q = at_end f.first x (name_word x f.first f.is) in
-    ap event_text (sym (some_is (events.Reveal c.first d.first f.first) e f.then')) ∙ ((λ i. codes "reveal " ++ p i) ∙ (λ i. codes "reveal " ++ (k ++ (codes " " ++ (a ++ (codes " " ++ q i))))))
+    ap event_text (sym (some_is (events.Reveal c.first d.first f.first) e f.then'))
+    ∙ ((λ i. codes "reveal " ++ p i) ∙ (λ i. codes "reveal " ++ (k ++ (codes " " ++ (a ++ (codes " " ++ q i))))))
 reveal_said parties (k ∷ a ∷ x ∷ y ∷ ws) e h = absurd (none_some e h)
 
 fire_said : (parties words : List (List ℕ)) (e : Event) → fire parties words ≡ some e → Said (codes "fire") words e
@@ -145,8 +147,10 @@ Split = List (List ℕ) × List (List ℕ)
 abbrev with_arrow : Split → List (List ℕ)
 with_arrow p = p.0 ++ codes "->" ∷ p.1
 
-split_is : (t : Bool) (word : List ℕ) (words : List (List ℕ)) (later : Option Split) (p : Split) → bytes_eq word (codes "->") ≡ t → before_arrow t word words later ≡ some p → ((q : Split) → later ≡ some q → with_arrow q ≡ words) → with_arrow p ≡ word ∷ words
-split_is true word words later p same h f = ap with_arrow (sym (some_is ([], words) p h)) ∙ ap (λ (w : List ℕ). w ∷ words) (sym (same_bytes word (codes "->") same))
+split_is : (t : Bool) (word : List ℕ) (words : List (List ℕ)) (later : Option Split) (p : Split) → bytes_eq word (codes "->") ≡ t
+    → before_arrow t word words later ≡ some p → ((q : Split) → later ≡ some q → with_arrow q ≡ words) → with_arrow p ≡ word ∷ words
+split_is true word words later p same h f =
+    ap with_arrow (sym (some_is ([], words) p h)) ∙ ap (λ (w : List ℕ). w ∷ words) (sym (same_bytes word (codes "->") same))
 split_is false word words None p same h f = absurd (none_some p h)
 split_is false word words (Some q) p same h f = ap with_arrow (sym (some_is (word ∷ q.0, q.1) p h)) ∙ ap (λ (ws : List (List ℕ)). word ∷ ws) (f q refl)
 
@@ -156,7 +160,9 @@ arrow_words (w ∷ ws) p h = split_is (bytes_eq w (codes "->")) w ws (at_arrow w
 
 each_append : (xs ys : List (List ℕ)) → each_spaced (xs ++ ys) ≡ each_spaced xs ++ each_spaced ys
 each_append [] ys = refl
-each_append (x ∷ xs) ys = ap (λ (rest : List ℕ). codes " " ++ (x ++ rest)) (each_append xs ys) ∙ ap (λ (rest : List ℕ). codes " " ++ rest) (sym (append_assoc x (each_spaced xs) (each_spaced ys)))
+each_append (x ∷ xs) ys =
+    ap (λ (rest : List ℕ). codes " " ++ (x ++ rest)) (each_append xs ys)
+    ∙ ap (λ (rest : List ℕ). codes " " ++ rest) (sym (append_assoc x (each_spaced xs) (each_spaced ys)))
 
 abbrev Share : Type 0
 Share = List ℕ × ℕ
@@ -164,7 +170,8 @@ Share = List ℕ × ℕ
 abbrev share_text : Share → List ℕ
 share_text p = p.0 ++ (codes " " ++ decimal p.1)
 
-share_words : (parties : List (List ℕ)) (a v : List ℕ) (o : Share) → (one_of parties a >>= λ p. amount v >>= λ n. some (p, n)) ≡ some o → share_text o ≡ a ++ (codes " " ++ v)
+share_words : (parties : List (List ℕ)) (a v : List ℕ) (o : Share)
+    → (one_of parties a >>= λ p. amount v >>= λ n. some (p, n)) ≡ some o → share_text o ≡ a ++ (codes " " ++ v)
 share_words parties a v o h =
     let c = came (one_of parties a) (λ p. amount v >>= λ n. some (p, n)) o h in
     let d = came (amount v) (λ n. some (c.first, n)) o c.then' in
@@ -184,15 +191,19 @@ shares_words parties (a ∷ v ∷ ws) outputs h =
 give_said : (parties words : List (List ℕ)) (e : Event) → give parties words ≡ some e → Said (codes "give") words e
 give_said parties [] e h = absurd (none_some e h)
 give_said parties (a ∷ ws) e h =
-    let c = came (one_of parties a) (λ p. at_arrow ws >>= λ q. all_of output (q.0) >>= λ is. shares parties (q.1) >>= λ os. given (is_some_list is && is_some_list os) (events.Give p is os)) e h in
-    let d = came (at_arrow ws) (λ q. all_of output (q.0) >>= λ is. shares parties (q.1) >>= λ os. given (is_some_list is && is_some_list os) (events.Give c.first is os)) e c.then' in
-    let f = came (all_of output (d.first.0)) (λ is. shares parties (d.first.1) >>= λ os. given (is_some_list is && is_some_list os) (events.Give c.first is os)) e d.then' in
+    let c = came (one_of parties a) (λ p. at_arrow ws >>= λ q. all_of output (q.0)
+    >>= λ is. shares parties (q.1) >>= λ os. given (is_some_list is && is_some_list os) (events.Give p is os)) e h in
+    let d = came (at_arrow ws) (λ q. all_of output (q.0)
+    >>= λ is. shares parties (q.1) >>= λ os. given (is_some_list is && is_some_list os) (events.Give c.first is os)) e c.then' in
+    let f = came (all_of output (d.first.0))
+    (λ is. shares parties (d.first.1) >>= λ os. given (is_some_list is && is_some_list os) (events.Give c.first is os)) e d.then' in
     let g = came (shares parties (d.first.1)) (λ os. given (is_some_list f.first && is_some_list os) (events.Give c.first f.first os)) e f.then' in
     let t = given_is (is_some_list f.first && is_some_list g.first) (events.Give c.first f.first g.first) e g.then' in
     let p = one_word parties a c.first c.is in
     let q = all_words output output_text output_word d.first.0 f.first f.is in
     let r = shares_words parties d.first.1 g.first g.is in
-    let words : each_spaced d.first.0 ++ (codes " ->" ++ each_spaced d.first.1) ≡ each_spaced ws = sym (each_append d.first.0 (codes "->" ∷ d.first.1)) ∙ ap each_spaced (arrow_words ws d.first d.is) in
+    let words : each_spaced d.first.0 ++ (codes " ->" ++ each_spaced d.first.1) ≡ each_spaced ws =
+    sym (each_append d.first.0 (codes "->" ∷ d.first.1)) ∙ ap each_spaced (arrow_words ws d.first d.is) in
     ap event_text (sym t.same) ∙ ((λ i. codes "give " ++ (p i ++ (q i ++ (codes " ->" ++ r i)))) ∙ ap (λ (rest : List ℕ). codes "give " ++ (a ++ rest)) words)
 
 -- ---- lines with digits that may be capital letters
@@ -287,7 +298,8 @@ event_by_again parties word words e h =
     by_test (bytes_eq word (codes "give")) _ _ (some e) P h8 (λ w x. as_is parties words word _ e w h (give_said parties words e x)) (λ h9.
     by_test (bytes_eq word (codes "append")) _ _ (some e) P h9 (λ w x. named_first parties words word _ e w (append_again parties words e x)) (λ h10.
     by_test (bytes_eq word (codes "fire")) _ _ (some e) P h10 (λ w x. as_is parties words word _ e w h (fire_said parties words e x)) (λ h11.
-    by_test (bytes_eq word (codes "mine")) _ _ (some e) P h11 (λ w x. as_is parties words word _ e w h (mine_said parties words e x)) (λ h12. absurd (none_some e h12)))))))))))))
+    by_test (bytes_eq word (codes "mine")) _ _
+    (some e) P h11 (λ w x. as_is parties words word _ e w h (mine_said parties words e x)) (λ h12. absurd (none_some e h12)))))))))))))
 
 -- the canonical words of an event
 pub event_again : (parties words : List (List ℕ)) (e : Event) → event_of parties words ≡ some e → Canonical parties words e

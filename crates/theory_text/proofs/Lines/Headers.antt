@@ -65,9 +65,11 @@ three_last a b c rest = simp append_assoc
 header_lined : (h : Header) → header_text h ≡ lined (header_lines h)
 header_lined h =
     let deposits : flat_map deposit_text h.deposits ++ lined (codes "--" ∷ []) ≡ lined (deposit_lines h) =
-    lined_map deposit_text (λ d. spaced (deposit_words d)) (λ d. ap (λ (xs : List ℕ). codes "deposit " ++ xs) (two_last d.0 (decimal d.1) newline)) h.deposits (codes "--" ∷ []) in
+    lined_map deposit_text (λ d. spaced (deposit_words d))
+    (λ d. ap (λ (xs : List ℕ). codes "deposit " ++ xs) (two_last d.0 (decimal d.1) newline)) h.deposits (codes "--" ∷ []) in
     let secrets : flat_map secret_text h.secrets ++ lined (deposit_lines h) ≡ lined (secret_lines h) =
-    lined_map secret_text (λ s. spaced (secret_words s)) (λ s. ap (λ (xs : List ℕ). codes "secret " ++ xs) (three_last s.party s.name (hex_text s.bytes) newline)) h.secrets (deposit_lines h) in
+    lined_map secret_text (λ s. spaced (secret_words s))
+    (λ s. ap (λ (xs : List ℕ). codes "secret " ++ xs) (three_last s.party s.name (hex_text s.bytes) newline)) h.secrets (deposit_lines h) in
     let honest : flat_map honest_text h.honest ++ lined (secret_lines h) ≡ lined (honest_lines h) =
     lined_map honest_text (λ a. spaced (honest_words a)) (λ a. ap (λ (xs : List ℕ). codes "honest " ++ xs) (one_last a newline)) h.honest (secret_lines h) in
     let parties : flat_map party_text h.parties ++ lined (honest_lines h) ≡ lined (header_lines h) =
@@ -227,8 +229,10 @@ all_read : (h : Header) → IsRead h → Ended h (read_header no_header 1 (heade
 all_read h is =
     let a = many_read (λ ps. record no_header { parties = ps }) (λ x. spaced (party_words x)) NewParty party_says [] h.parties is.parties' 1 (honest_lines h) in
     let b = many_read (with_honest h) (λ x. spaced (honest_words x)) (NewHonest h.parties) (honest_says h) [] h.honest is.honest' a.number (secret_lines h) in
-    let c = many_read (with_secrets h) (λ s. spaced (secret_words s)) (NewSecret h.honest) (secret_says h) [] h.secrets is.secrets' b.number (deposit_lines h) in
-    let d = many_read (with_deposits h) (λ x. spaced (deposit_words x)) (NewDeposit h.parties) (deposit_says h) [] h.deposits is.deposits' c.number (codes "--" ∷ []) in
+    let c = many_read (with_secrets h) (λ s. spaced (secret_words s))
+    (NewSecret h.honest) (secret_says h) [] h.secrets is.secrets' b.number (deposit_lines h) in
+    let d = many_read (with_deposits h) (λ x. spaced (deposit_words x))
+    (NewDeposit h.parties) (deposit_says h) [] h.deposits is.deposits' c.number (codes "--" ∷ []) in
     record { number = d.number + 1; is = a.read ∙ (b.read ∙ (c.read ∙ d.read)) }
 
 -- ---- no byte of a line ends it
@@ -245,7 +249,8 @@ header_lines_end h is =
     lines_end party_words NewParty (λ done a p. party_line_of a (and_left _ _ p.spelled)) [] h.parties (honest_lines h) is.parties'
     (lines_end honest_words (NewHonest h.parties) (λ done a p. honest_line_of a p.named) [] h.honest (secret_lines h) is.honest'
     (lines_end secret_words (NewSecret h.honest) (secret_line_of h.honest) [] h.secrets (deposit_lines h) is.secrets'
-    (lines_end deposit_words (NewDeposit h.parties) (λ done d p. deposit_line_of d.0 d.1 p.named (number_less (2 ^ 64) (decimal d.1) d.1 p.read)) [] h.deposits (codes "--" ∷ []) is.deposits' ((refl, (refl, tt)), tt))))
+    (lines_end deposit_words (NewDeposit h.parties) (λ done d p. deposit_line_of d.0 d.1 p.named (number_less (2 ^ 64) (decimal d.1) d.1 p.read))
+    [] h.deposits (codes "--" ∷ []) is.deposits' ((refl, (refl, tt)), tt))))
 
 -- ---- the header of a run that was read
 
@@ -264,6 +269,7 @@ run_read text run h = rest_is (read_header no_header 1 (lines_of text)) run
 pub printed_header : PrintedHeaderTheorem
 printed_header text run h =
     let is = run_read text run h in
-    let lines : lines_of (header_text run.header) ≡ header_lines run.header = ap lines_of (header_lined run.header) ∙ lines_again (header_lines run.header) (header_lines_end run.header is) in
+    let lines : lines_of (header_text run.header) ≡ header_lines run.header =
+    ap lines_of (header_lined run.header) ∙ lines_again (header_lines run.header) (header_lines_end run.header is) in
     let read = all_read run.header is in
     ap (λ (ls : List (List ℕ)). read_rest (read_header no_header 1 ls)) lines ∙ ap read_rest read.is

@@ -23,7 +23,8 @@ digit_back v h = by_ten (nat_lt v 10) v refl h
 
     by_ten : (t : Bool) (v : ℕ) → nat_lt v 10 ≡ t → v < 16 → hex_digit_value (if t then 48 + v else 87 + v) ≡ Some v
     by_ten true v e h = let less : v < 10 = grind (arith, nat_tests) in rw (low v less) (ap some (let n : 48 + v - 48 ≡ v = omega arith in n))
-    by_ten false v e h = let more : 10 ≤ v = grind (arith, nat_tests) in rw (high v more, letter v more h) (ap some (let n : 87 + v - 87 ≡ v = omega arith in n))
+    by_ten false v e h =
+        let more : 10 ≤ v = grind (arith, nat_tests) in rw (high v more, letter v more h) (ap some (let n : 87 + v - 87 ≡ v = omega arith in n))
 
 pair_back : (b : ℕ) → b < 256 → hex_pair (hex_digit_value (hex_digit (b / 16))) (hex_digit_value (hex_digit (b % 16))) ≡ Some b
 pair_back b h =

@@ -87,7 +87,8 @@ binding_word word b h =
 -- ---- all words of a kind
 
 -- what is read from each word is written as that word
-pub all_words : {A : Type 0} (read : List ℕ → Option A) (text : A → List ℕ) → ((word : List ℕ) (x : A) → read word ≡ some x → text x ≡ word) → (words : List (List ℕ)) (xs : List A) → all_of read words ≡ some xs → flat_map (λ x. codes " " ++ text x) xs ≡ each_spaced words
+pub all_words : {A : Type 0} (read : List ℕ → Option A) (text : A → List ℕ) → ((word : List ℕ) (x : A) → read word ≡ some x → text x ≡ word)
+    → (words : List (List ℕ)) (xs : List A) → all_of read words ≡ some xs → flat_map (λ x. codes " " ++ text x) xs ≡ each_spaced words
 all_words read text f [] xs h = ap (flat_map (λ x. codes " " ++ text x)) (sym (some_is [] xs h))
 all_words read text f (word ∷ words) xs h =
     let o = onto_is (read word) (all_of read words) xs h in
@@ -163,7 +164,8 @@ path_word (b ∷ bytes) ss h =
 from_left : (a b c : List ℕ) → codes "B:" ++ a ++ codes ":" ++ b ++ codes ":" ++ c ≡ codes "B" ++ (58 ∷ (a ++ (58 ∷ (b ++ (58 ∷ c)))))
 from_left a b c = simp append_assoc
 
-branch_text : (contract : ℕ) (place : List PathStep) (party : List ℕ) → label_text (Branch contract place party) ≡ codes "B" ++ (58 ∷ (decimal contract ++ (58 ∷ (path_text place ++ (58 ∷ party)))))
+branch_text : (contract : ℕ) (place : List PathStep) (party : List ℕ)
+    → label_text (Branch contract place party) ≡ codes "B" ++ (58 ∷ (decimal contract ++ (58 ∷ (path_text place ++ (58 ∷ party)))))
 unfolding label_text
 branch_text contract place party = from_left (decimal contract) (path_text place) party
 

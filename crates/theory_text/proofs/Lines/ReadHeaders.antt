@@ -138,14 +138,16 @@ with_honest h a is new =
     }
 
 -- the canonical line of a secret is no longer than the line that it was read from
-secret_short : (line a s word bytes : List ℕ) → words_of line ≡ codes "secret" ∷ a ∷ s ∷ word ∷ [] → read_hex word ≡ some bytes → length (spaced (secret_words (held_secret a s bytes))) ≤ length line
+secret_short : (line a s word bytes : List ℕ) → words_of line ≡ codes "secret" ∷ a ∷ s ∷ word ∷ []
+    → read_hex word ≡ some bytes → length (spaced (secret_words (held_secret a s bytes))) ≤ length line
 secret_short line a s word bytes words read =
     let size = (read_hex_back word bytes read).size in
     let all = ap total words in
     let count = ap (length {A = List ℕ}) words in
     spaced_length line (secret_words (held_secret a s bytes)) (omega arith) (omega (arith, all, size)) (omega (arith, count))
 
-with_secret : (h : Header) (a s word bytes line : List ℕ) → IsRead h → words_of line ≡ codes "secret" ∷ a ∷ s ∷ word ∷ [] → length line ≤ most_line_bytes → read_hex word ≡ some bytes
+with_secret : (h : Header) (a s word bytes line : List ℕ)
+    → IsRead h → words_of line ≡ codes "secret" ∷ a ∷ s ∷ word ∷ [] → length line ≤ most_line_bytes → read_hex word ≡ some bytes
     → ((is_among a h.honest && is_name s) && not (list_any (is_taken a s bytes) h.secrets)) ≡ true
     → nat_lt (length h.secrets) most_header_secrets ≡ true → IsRead (record h { secrets = h.secrets ++ held_secret a s bytes ∷ [] })
 with_secret h a s word bytes line is words fits read new room =
@@ -197,11 +199,14 @@ honest_says h k [] is e = absurd cc
 honest_says h k (a ∷ []) is e = let w = within _ _ _ _ k e in subst IsRead w.same (with_honest h a is w.spelled)
 honest_says h k (a ∷ b ∷ ws) is e = absurd cc
 
-secret_of_says : (h k : Header) (a s word line : List ℕ) (bytes : Option (List ℕ)) → read_hex word ≡ bytes → words_of line ≡ codes "secret" ∷ a ∷ s ∷ word ∷ [] → length line ≤ most_line_bytes → IsRead h → secret_of h a s bytes ≡ says k → IsRead k
+secret_of_says : (h k : Header) (a s word line : List ℕ) (bytes : Option (List ℕ)) → read_hex word ≡ bytes
+    → words_of line ≡ codes "secret" ∷ a ∷ s ∷ word ∷ [] → length line ≤ most_line_bytes → IsRead h → secret_of h a s bytes ≡ says k → IsRead k
 secret_of_says h k a s word line None read words fits is e = absurd cc
-secret_of_says h k a s word line (Some bytes) read words fits is e = let w = within _ _ _ _ k e in subst IsRead w.same (with_secret h a s word bytes line is words fits read w.spelled w.fits)
+secret_of_says h k a s word line (Some bytes) read words fits is e =
+    let w = within _ _ _ _ k e in subst IsRead w.same (with_secret h a s word bytes line is words fits read w.spelled w.fits)
 
-secret_says : (h k : Header) (line : List ℕ) (ws : List (List ℕ)) → words_of line ≡ codes "secret" ∷ ws → length line ≤ most_line_bytes → IsRead h → secret_line h ws ≡ says k → IsRead k
+secret_says : (h k : Header) (line : List ℕ) (ws : List (List ℕ))
+    → words_of line ≡ codes "secret" ∷ ws → length line ≤ most_line_bytes → IsRead h → secret_line h ws ≡ says k → IsRead k
 secret_says h k line [] words fits is e = absurd cc
 secret_says h k line (a ∷ []) words fits is e = absurd cc
 secret_says h k line (a ∷ s ∷ []) words fits is e = absurd cc
@@ -224,7 +229,8 @@ words_say h k line [] words fits is e = absurd cc
 words_say h k line (w ∷ ws) words fits is e =
     by_test (bytes_eq w (codes "party")) _ _ (says_header k) (IsRead k) e (λ same. party_says h k ws is) (λ e1.
     by_test (bytes_eq w (codes "honest")) _ _ (says_header k) (IsRead k) e1 (λ same. honest_says h k ws is) (λ e2.
-    by_test (bytes_eq w (codes "secret")) _ _ (says_header k) (IsRead k) e2 (λ same. secret_says h k line ws (words ∙ ap (λ (x : List ℕ). x ∷ ws) (same_bytes w (codes "secret") same)) fits is) (λ e3.
+    by_test (bytes_eq w (codes "secret")) _ _ (says_header k)
+    (IsRead k) e2 (λ same. secret_says h k line ws (words ∙ ap (λ (x : List ℕ). x ∷ ws) (same_bytes w (codes "secret") same)) fits is) (λ e3.
     by_test (bytes_eq w (codes "deposit")) _ _ (says_header k) (IsRead k) e3 (λ same. deposit_says h k ws is) (λ e4.
     by_test (bytes_eq w (codes "--")) _ _ (says_header k) (IsRead k) e4 (λ same e5. absurd (rule_says k ws e5)) (λ e5. absurd cc)))))
 

@@ -199,9 +199,12 @@ some_list (x ∷ xs) h = omega arith
 give_is : (s : Setup) (words : List (List ℕ)) (e : Event) → length words ≤ 524288 → give s.header.parties words ≡ some e → IsEvent s e
 give_is s [] e few h = absurd (none_some e h)
 give_is s (a ∷ ws) e few h =
-    let c = came (one_of s.header.parties a) (λ p. at_arrow ws >>= λ q. all_of output (q.0) >>= λ is. shares s.header.parties (q.1) >>= λ os. given (is_some_list is && is_some_list os) (events.Give p is os)) e h in
-    let d = came (at_arrow ws) (λ q. all_of output (q.0) >>= λ is. shares s.header.parties (q.1) >>= λ os. given (is_some_list is && is_some_list os) (events.Give c.first is os)) e c.then' in
-    let f = came (all_of output (d.first.0)) (λ is. shares s.header.parties (d.first.1) >>= λ os. given (is_some_list is && is_some_list os) (events.Give c.first is os)) e d.then' in
+    let c = came (one_of s.header.parties a) (λ p. at_arrow ws >>= λ q. all_of output (q.0)
+    >>= λ is. shares s.header.parties (q.1) >>= λ os. given (is_some_list is && is_some_list os) (events.Give p is os)) e h in
+    let d = came (at_arrow ws) (λ q. all_of output (q.0)
+    >>= λ is. shares s.header.parties (q.1) >>= λ os. given (is_some_list is && is_some_list os) (events.Give c.first is os)) e c.then' in
+    let f = came (all_of output (d.first.0))
+    (λ is. shares s.header.parties (d.first.1) >>= λ os. given (is_some_list is && is_some_list os) (events.Give c.first is os)) e d.then' in
     let g = came (shares s.header.parties (d.first.1)) (λ os. given (is_some_list f.first && is_some_list os) (events.Give c.first f.first os)) e f.then' in
     let t = given_is (is_some_list f.first && is_some_list g.first) (events.Give c.first f.first g.first) e g.then' in
     let sh = shares_are s (d.first.1) g.first g.is in

@@ -116,7 +116,9 @@ apart_push : (xs : List HeldSecret) (a s bytes : List ℕ) → are_held_apart xs
     → are_held_apart (xs ++ held_secret a s bytes ∷ []) ≡ true
 apart_push [] a s bytes h new = refl
 apart_push (x ∷ xs) a s bytes h new =
-    let apart : list_any (is_named x) (xs ++ held_secret a s bytes ∷ []) ≡ false = list_any-append (is_named x) xs (held_secret a s bytes ∷ []) ∙ or_no _ _ (not_yes _ (and_left _ _ h)) (or_no _ _ (named_back x a s bytes (or_left _ _ new)) refl) in
+    let apart : list_any (is_named x) (xs ++ held_secret a s bytes ∷ []) ≡ false =
+    list_any-append (is_named x) xs (held_secret a s bytes ∷ [])
+    ∙ or_no _ _ (not_yes _ (and_left _ _ h)) (or_no _ _ (named_back x a s bytes (or_left _ _ new)) refl) in
     and_is _ _ (not_no _ apart) (apart_push xs a s bytes (and_right _ _ h) (or_right _ _ new))
 
 new_bytes : (xs : List HeldSecret) (a s bytes : List ℕ) → list_any (is_taken a s bytes) xs ≡ false → is_among bytes (map (λ x. x.bytes) xs) ≡ false

@@ -22,7 +22,8 @@ pub record Cut (n : ℕ) (ps : List (List ℕ)) : Type 0 where
 
 cut_more : (t : Bool) (b n : ℕ) (ps : List (List ℕ)) → Cut n ps → Cut (suc n) (cut_byte t b ps)
 cut_more true b n ps h = record { size = omega (arith, h.size); some = omega arith }
-cut_more false b n ps h = let l = first_some b ps h.some in let t = first_total b ps in record { size = omega (arith, h.size, l, t); some = omega (arith, l, h.some) }
+cut_more false b n ps h =
+    let l = first_some b ps h.some in let t = first_total b ps in record { size = omega (arith, h.size, l, t); some = omega (arith, l, h.some) }
 
 pub cut_is : (p : ℕ → Bool) (xs : List ℕ) → Cut (length xs) (parts_of p xs)
 cut_is p [] = record { size = refl; some = omega arith }

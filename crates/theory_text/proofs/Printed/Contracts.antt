@@ -149,8 +149,10 @@ choice_from b no_branch s m =
     }
 choice_from b (branch c cs) s m =
     let t = s.tokens ++ (m.tokens ++ symbol mark.RightParen ∷ []) in
-    let inner : Piece (branch_text b ++ (rest_text (branch c cs) ++ codes ")")) t = piece_then s.piece (piece_then m.piece (open_ended right_paren) refl) refl in
-    let piece : Piece ((branch_text b ++ rest_text (branch c cs)) ++ codes ")") t = subst (λ (text : List ℕ). Piece text t) (sym (append_assoc (branch_text b) (rest_text (branch c cs)) (codes ")"))) inner in
+    let inner : Piece (branch_text b ++ (rest_text (branch c cs) ++ codes ")")) t =
+    piece_then s.piece (piece_then m.piece (open_ended right_paren) refl) refl in
+    let piece : Piece ((branch_text b ++ rest_text (branch c cs)) ++ codes ")") t =
+    subst (λ (text : List ℕ). Piece text t) (sym (append_assoc (branch_text b) (rest_text (branch c cs)) (codes ")"))) inner in
     record { tokens = symbol mark.LeftParen ∷ t; piece = closed_then left_paren piece; spells = inr (s.tokens, m.tokens, refl, s.spells, m.spells) }
 
 more_from : (b : Guarded) (bs : Contract) → BranchSpelled b → MoreSpelled bs → MoreSpelled (branch b bs)
@@ -166,7 +168,8 @@ rest_parts_ends : (ps : Parts) → Ends (rest_parts_text ps)
 rest_parts_ends no_part = tt
 rest_parts_ends (part v c ps) = refl
 
-part_piece : (v : ℕ) (c : Contract) (ps : Parts) → nat_le v max_money ≡ true → (s : ChoiceSpelled c) (m : MorePartsSpelled ps) → Piece (decimal v ++ (codes " -> " ++ (choice_text c ++ rest_parts_text ps))) (number v ∷ symbol mark.Arrow ∷ (s.tokens ++ m.tokens))
+part_piece : (v : ℕ) (c : Contract) (ps : Parts) → nat_le v max_money ≡ true → (s : ChoiceSpelled c) (m : MorePartsSpelled ps)
+    → Piece (decimal v ++ (codes " -> " ++ (choice_text c ++ rest_parts_text ps))) (number v ∷ symbol mark.Arrow ∷ (s.tokens ++ m.tokens))
 part_piece v c ps h s m =
     piece_then (number_piece v (omega (arith, le_is v max_money h))) (closed_then arrow_spaced (piece_then s.piece m.piece (rest_parts_ends ps))) refl
 

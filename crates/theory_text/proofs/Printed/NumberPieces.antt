@@ -26,7 +26,8 @@ some_prefix k n = Some (k, n)
 number_at_prefix : (b : ℕ) (more rest : List ℕ) → list_all is_digit more ≡ true → Ends rest → number_prefix b (more ++ rest)
     ≡ (number_kind (b ∷ more), length more)
 unfolding number_prefix
-number_at_prefix b more rest h ends = ap (λ (run : List ℕ). let f : Prefix = (number_kind (b ∷ run), length run) in f) (run_append is_digit more rest h (name_byte_no_digit rest ends))
+number_at_prefix b more rest h ends =
+    ap (λ (run : List ℕ). let f : Prefix = (number_kind (b ∷ run), length run) in f) (run_append is_digit more rest h (name_byte_no_digit rest ends))
 
 prefix_digit : (b : ℕ) (bytes : List ℕ) → is_letter b ≡ false → (b == 48) ≡ false → is_digit b ≡ true → prefix b bytes ≡ Some (number_prefix b bytes)
 prefix_digit b bytes h i j = rw (h, i, j) refl
@@ -44,7 +45,9 @@ positive n (b ∷ more) small is value first =
     let no_letter : is_letter b ≡ false = digit_no_letter b digit in
     let no_zero : (b == 48) ≡ false = above_zero b first in
     let read : (rest : List ℕ) → Ends rest → prefix b (more ++ rest) ≡ some_prefix (kind.Number n) (length more) = λ rest ends.
-    prefix_digit b (more ++ rest) no_letter no_zero digit ∙ (ap (λ (f : Prefix). Some f) (number_at_prefix b more rest (and_right (is_digit b) _ is) ends) ∙ ap (λ (k : Kind). some_prefix k (length more)) (number_kind-is n (b ∷ more) value small)) in
+    prefix_digit b (more ++ rest) no_letter no_zero digit
+    ∙ (ap (λ (f : Prefix). Some f) (number_at_prefix b more rest (and_right (is_digit b) _ is) ends)
+    ∙ ap (λ (k : Kind). some_prefix k (length more)) (number_kind-is n (b ∷ more) value small)) in
     record { says = λ rest later ends l. says_token b more rest (kind.Number n) (number n) later (digit_no_blank b digit) (read rest ends) refl l }
   where
     digit_no_letter : (b : ℕ) → is_digit b ≡ true → is_letter b ≡ false

@@ -45,15 +45,18 @@ at_token place b bytes f h e = rw (h, e) refl
 
 -- a token, and what is behind it
 pub says_token : (b : ℕ) (more rest : List ℕ) (k : Kind) (t : Lexeme) (said : List Lexeme) → is_blank b ≡ false
-    → (let f : Prefix = (k, length more) in prefix b (more ++ rest) ≡ Some f) → lexeme_of k (b ∷ more) ≡ t → Says rest said → Says ((b ∷ more) ++ rest) (t ∷ said)
+    → (let f : Prefix = (k, length more) in prefix b (more ++ rest) ≡ Some f)
+    → lexeme_of k (b ∷ more) ≡ t → Says rest said → Says ((b ∷ more) ++ rest) (t ∷ said)
 says_token b more rest k t said h e is later text place at =
     let f : Prefix = (k, length more) in
     let first : drop (place + 1) text ≡ more ++ rest = behind text place b (more ++ rest) at in
-    let there : drop (place + 1 + length more) text ≡ rest = sym (drop-drop (length more) (place + 1) text) ∙ (ap (drop (length more)) first ∙ drop_at more rest (length more) refl) in
+    let there : drop (place + 1 + length more) text ≡ rest =
+    sym (drop-drop (length more) (place + 1) text) ∙ (ap (drop (length more)) first ∙ drop_at more rest (length more) refl) in
     let s = later text (place + 1 + length more) there in
     let read : tokens_from (place + 1) (length more) (more ++ rest) ≡ Ok s.tokens = passed_over more rest (place + 1) ∙ s.cut in
     let n : length more + 1 ≡ suc (length more) = omega arith in
-    let taken : take (length more + 1) (b ∷ (more ++ rest)) ≡ b ∷ more = ap (λ (i : ℕ). take i (b ∷ (more ++ rest))) n ∙ ap (λ (xs : List ℕ). b ∷ xs) (take_at more rest (length more) refl) in
+    let taken : take (length more + 1) (b ∷ (more ++ rest)) ≡ b ∷ more =
+    ap (λ (i : ℕ). take i (b ∷ (more ++ rest))) n ∙ ap (λ (xs : List ℕ). b ∷ xs) (take_at more rest (length more) refl) in
     let bytes : token_bytes text (token_at place f) ≡ b ∷ more = token_bytes-at text place f (b ∷ (more ++ rest)) at ∙ taken in
     let one : lexeme_of k (token_bytes text (token_at place f)) ≡ t = ap (lexeme_of k) bytes ∙ is in
     record {
@@ -117,5 +120,6 @@ pub whole : (text : List ℕ) (said : List Lexeme) → Piece text said → SaysA
 whole text said h =
     let bytes : text ++ [] ≡ text = append-nil text in
     let all : said ++ [] ≡ said = append-nil said in
-    let says : Says text said = subst (λ (xs : List ℕ). Says xs said) bytes (subst (λ (s : List Lexeme). Says (text ++ []) s) all (h.says [] [] tt says_nothing)) in
+    let says : Says text said =
+    subst (λ (xs : List ℕ). Says xs said) bytes (subst (λ (s : List Lexeme). Says (text ++ []) s) all (h.says [] [] tt says_nothing)) in
     says text 0 refl

@@ -73,7 +73,8 @@ root_to pre t advert s =
 fee_to : (pre : List Pre) (t : List Lexeme) (advert : Advert) → Fee pre t advert → Behind (keyword word.Fee) (FeeRoot pre) t advert
 fee_to pre t advert s =
     let r = root_text pre s.value s.second advert s.back in
-    let is : keyword word.Fee ∷ t ≡ keyword word.Fee ∷ number s.value ∷ s.second = ap (λ (z : List Lexeme). keyword word.Fee ∷ z) (s.parts ∙ ap (λ (z : List Lexeme). z ++ s.second) s.prefix.single) in
+    let is : keyword word.Fee ∷ t ≡ keyword word.Fee ∷ number s.value ∷ s.second =
+    ap (λ (z : List Lexeme). keyword word.Fee ∷ z) (s.parts ∙ ap (λ (z : List Lexeme). z ++ s.second) s.prefix.single) in
     subst (Behind (keyword word.Fee) (FeeRoot pre) t) r.2
     (record { fee_part = keyword word.Fee ∷ number s.value ∷ []; root_part = s.second; parts = is; entries = refl; fee = inr refl; root = r.1 })
 

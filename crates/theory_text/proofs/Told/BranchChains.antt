@@ -63,7 +63,8 @@ After b = Seq (As numbered) (λ h. Seq (As (that (symbol mark.Colon))) (λ u. Se
 pub after_to : (b : ℕ) (t : List Lexeme) (v : Guarded × ℕ) → After b t v → Behind (keyword word.After) (BranchText b) t v
 after_to b t v s =
     let r = s.back.back in
-    let is : t ≡ number s.value ∷ symbol mark.Colon ∷ r.first = s.parts ∙ rw (s.prefix.single, s.back.parts, s.back.prefix.single, r.parts, r.back.empty, append-nil r.first) refl in
+    let is : t ≡ number s.value ∷ symbol mark.Colon ∷ r.first =
+    s.parts ∙ rw (s.prefix.single, s.back.parts, s.back.prefix.single, r.parts, r.back.empty, append-nil r.first) refl in
     subst (Behind (keyword word.After) (BranchText b) t) r.back.same ((r.first, ap (λ (u : List Lexeme). keyword word.After ∷ u) is, r.prefix.0), r.prefix.1)
 
 after_of : (b : ℕ) (t : List Lexeme) (g : Guarded) (n : ℕ) → SpellsBranch (keyword word.After ∷ t) g → n ≡ b - count_under g → After b t (g, n)
@@ -107,7 +108,8 @@ headed_to : (c : Lexeme) (H : List Lexeme → Heading → Type 0) → ((t : List
 headed_to c H to b t v s =
     let h = to s.first s.value s.prefix in
     let is : t ≡ s.first ++ s.back.first = s.parts ∙ rw (s.back.parts, s.back.back.empty, append-nil s.back.first) refl in
-    let whole : c ∷ t ≡ h.0 ++ symbol mark.Dot ∷ s.back.first = ap (λ (u : List Lexeme). c ∷ u) is ∙ ap (λ (u : List Lexeme). u ++ s.back.first) h.1 ∙ append_assoc h.0 (symbol mark.Dot ∷ []) s.back.first in
+    let whole : c ∷ t ≡ h.0 ++ symbol mark.Dot ∷ s.back.first =
+    ap (λ (u : List Lexeme). c ∷ u) is ∙ ap (λ (u : List Lexeme). u ++ s.back.first) h.1 ∙ append_assoc h.0 (symbol mark.Dot ∷ []) s.back.first in
     subst (Behind c (BranchText b) t) s.back.back.same ((h.0, s.back.first, whole, h.2, s.back.prefix.0), s.back.prefix.1)
 
 headed_of : (c : Lexeme) (H : List Lexeme → Heading → Type 0)
@@ -193,7 +195,8 @@ pub split_to : (b : ℕ) (t : List Lexeme) (v : Guarded × ℕ) → Split b t v 
 split_to b t v s =
     let p = s.back.prefix.0 in
     let is : t ≡ symbol mark.LeftBracket ∷ s.back.first = s.parts ∙ rw (s.prefix.single, s.back.parts, s.back.back.empty, append-nil s.back.first) refl in
-    let whole : keyword word.Split ∷ t ≡ keyword word.Split ∷ symbol mark.LeftBracket ∷ (p.0 ++ symbol mark.RightBracket ∷ []) = ap (λ (u : List Lexeme). keyword word.Split ∷ u) is ∙ ap (λ (u : List Lexeme). keyword word.Split ∷ symbol mark.LeftBracket ∷ u) p.1 in
+    let whole : keyword word.Split ∷ t ≡ keyword word.Split ∷ symbol mark.LeftBracket ∷ (p.0 ++ symbol mark.RightBracket ∷ []) =
+    ap (λ (u : List Lexeme). keyword word.Split ∷ u) is ∙ ap (λ (u : List Lexeme). keyword word.Split ∷ symbol mark.LeftBracket ∷ u) p.1 in
     subst (Behind (keyword word.Split) (BranchText b) t) s.back.back.same ((p.0, whole, p.2), s.back.prefix.1)
 
 split_of : (b : ℕ) (t : List Lexeme) (g : Guarded) (n : ℕ) → SpellsBranch (keyword word.Split ∷ t) g → n ≡ b - count_under g → Split b t (g, n)

@@ -44,7 +44,8 @@ branches_at_end b t tb ts g false v is l k =
 branches_at_end b t tb ts g true v is l k =
     let m = more_of k.first k.value.0 k.prefix.0 in
     let text : ts ≡ k.first = k.parts ∙ rw (k.back.empty, append-nil k.first) refl in
-    let whole : t ≡ tb ++ (m.0 ++ symbol mark.RightParen ∷ []) = is ∙ ap (λ (z : List Lexeme). tb ++ symbol mark.Plus ∷ z) text ∙ ap (λ (z : List Lexeme). tb ++ z) m.1 in
+    let whole : t ≡ tb ++ (m.0 ++ symbol mark.RightParen ∷ []) =
+    is ∙ ap (λ (z : List Lexeme). tb ++ symbol mark.Plus ∷ z) text ∙ ap (λ (z : List Lexeme). tb ++ z) m.1 in
     subst (BranchesText b t) k.back.same ((tb, m.0, whole, l.0, m.2), omega (arith, l.1, k.prefix.1))
 
 pub branches_to : (b : ℕ) (t : List Lexeme) (v : Contract × ℕ) → BranchesSeq b t v → BranchesText b t v
@@ -78,7 +79,9 @@ branches_of b t tb tm g no_branch n is l m e =
     }
 branches_of b t tb tm g (branch h bs) n is l m e =
     let same : ((b - 1) - count_under g) - (count_under h + 1 + count_of bs) ≡ n = omega (arith, e) in
-    let text : tm ++ symbol mark.RightParen ∷ [] ≡ symbol mark.Plus ∷ (m.0 ++ (m.1 ++ symbol mark.RightParen ∷ [])) = ap (λ (z : List Lexeme). z ++ symbol mark.RightParen ∷ []) m.2 ∙ ap (λ (z : List Lexeme). symbol mark.Plus ∷ z) (append_assoc m.0 m.1 (symbol mark.RightParen ∷ [])) in
+    let text : tm ++ symbol mark.RightParen ∷ [] ≡ symbol mark.Plus ∷ (m.0 ++ (m.1 ++ symbol mark.RightParen ∷ [])) =
+    ap (λ (z : List Lexeme). z ++ symbol mark.RightParen ∷ []) m.2
+    ∙ ap (λ (z : List Lexeme). symbol mark.Plus ∷ z) (append_assoc m.0 m.1 (symbol mark.RightParen ∷ [])) in
     record {
       first = tb;
       second = symbol mark.Plus ∷ (m.0 ++ (m.1 ++ symbol mark.RightParen ∷ []));
@@ -137,7 +140,9 @@ one_of b c t (branch g bs) n h (inl w) e =
       prefix = (w.0, refl);
       back = record { empty = refl; same = λ i. (branch g (sym w.1 i), same i) };
     }
-one_of b c t (branch g bs) n h (inr w) e = let k : opens (symbol mark.LeftParen) ≡ false = subst (λ (z : Lexeme). opens z ≡ false) (head_is c (symbol mark.LeftParen) t _ w.2) h in absurd cc
+one_of b c t (branch g bs) n h (inr w) e =
+    let k : opens (symbol mark.LeftParen) ≡ false = subst (λ (z : Lexeme). opens z ≡ false) (head_is c (symbol mark.LeftParen) t _ w.2) h in
+    absurd cc
 
 pub one_from : (b : ℕ) (c : Lexeme) (t : List Lexeme) (v : Contract × ℕ) → opens c ≡ false → ChoiceText b (c ∷ t) v → OneSeq b (c ∷ t) v
 one_from b c t v h l = one_of b c t (v.0) (v.1) h (l.0) (l.1)
@@ -180,12 +185,16 @@ further t (part n c ps) l = (l.0, l.1, ap (λ (z : List Lexeme). symbol mark.Com
 parts_at_end : (b : ℕ) (t tn ts : List Lexeme) (n : ℕ) (c : Contract × ℕ) (o : Bool) (v : Parts × ℕ) → t ≡ number n ∷ symbol mark.Arrow
     ∷ (tn ++ comma_token o ∷ ts) → ChoiceText b tn c → PartsRest n c o ts v → PartsText b t v
 parts_at_end b t tn ts n c false v is l k =
-    let whole : t ≡ (number n ∷ symbol mark.Arrow ∷ (tn ++ [])) ++ symbol mark.RightBracket ∷ [] = is ∙ ap (λ (z : List Lexeme). number n ∷ symbol mark.Arrow ∷ (tn ++ symbol mark.RightBracket ∷ z)) k.empty ∙ ap (λ (z : List Lexeme). number n ∷ symbol mark.Arrow ∷ (z ++ symbol mark.RightBracket ∷ [])) (sym (append-nil tn)) in
+    let whole : t ≡ (number n ∷ symbol mark.Arrow ∷ (tn ++ [])) ++ symbol mark.RightBracket ∷ [] =
+    is ∙ ap (λ (z : List Lexeme). number n ∷ symbol mark.Arrow ∷ (tn ++ symbol mark.RightBracket ∷ z)) k.empty
+    ∙ ap (λ (z : List Lexeme). number n ∷ symbol mark.Arrow ∷ (z ++ symbol mark.RightBracket ∷ [])) (sym (append-nil tn)) in
     subst (PartsText b t) k.same ((number n ∷ symbol mark.Arrow ∷ (tn ++ []), whole, (tn, [], refl, l.0, refl)), omega (arith, l.1))
 parts_at_end b t tn ts n c true v is l k =
     let p = k.prefix.0 in
     let text : ts ≡ p.0 ++ symbol mark.RightBracket ∷ [] = k.parts ∙ rw (k.back.empty, append-nil k.first) p.1 in
-    let whole : t ≡ (number n ∷ symbol mark.Arrow ∷ (tn ++ symbol mark.Comma ∷ p.0)) ++ symbol mark.RightBracket ∷ [] = is ∙ ap (λ (z : List Lexeme). number n ∷ symbol mark.Arrow ∷ (tn ++ symbol mark.Comma ∷ z)) text ∙ ap (λ (z : List Lexeme). number n ∷ symbol mark.Arrow ∷ z) (sym (append_assoc tn (symbol mark.Comma ∷ p.0) (symbol mark.RightBracket ∷ []))) in
+    let whole : t ≡ (number n ∷ symbol mark.Arrow ∷ (tn ++ symbol mark.Comma ∷ p.0)) ++ symbol mark.RightBracket ∷ [] =
+    is ∙ ap (λ (z : List Lexeme). number n ∷ symbol mark.Arrow ∷ (tn ++ symbol mark.Comma ∷ z)) text
+    ∙ ap (λ (z : List Lexeme). number n ∷ symbol mark.Arrow ∷ z) (sym (append_assoc tn (symbol mark.Comma ∷ p.0) (symbol mark.RightBracket ∷ []))) in
     subst (PartsText b t) k.back.same (
       (
         number n ∷ symbol mark.Arrow
@@ -199,7 +208,8 @@ parts_at_end b t tn ts n c true v is l k =
 pub parts_to : (b : ℕ) (t : List Lexeme) (v : Parts × ℕ) → PartsSeq b t v → PartsText b t v
 parts_to b t v s =
     let r = s.back.back in
-    let is : t ≡ number s.value ∷ symbol mark.Arrow ∷ (r.first ++ comma_token r.back.value ∷ r.back.second) = s.parts ∙ rw (s.prefix.single, s.back.parts, s.back.prefix.single, r.parts, r.back.parts, r.back.prefix.single) refl in
+    let is : t ≡ number s.value ∷ symbol mark.Arrow ∷ (r.first ++ comma_token r.back.value ∷ r.back.second) =
+    s.parts ∙ rw (s.prefix.single, s.back.parts, s.back.prefix.single, r.parts, r.back.parts, r.back.prefix.single) refl in
     parts_at_end b t r.first r.back.second s.value r.value r.back.value v is r.prefix r.back.back
 
 parts_tail : (b : ℕ) (tm : List Lexeme) (v : ℕ) (c : Contract) (ps : Parts) (n : ℕ) → SpellsMoreParts tm ps → n

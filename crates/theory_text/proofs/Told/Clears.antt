@@ -29,7 +29,9 @@ clear_pure a = record {
 clear_seq_at : {A Y : Type 0} (n : ℕ) (F : List Lexeme → A → Type 0) (K : A → List Lexeme → Y → Type 0) → Clear_to n F
     → ((a : A) → Clear_to n (K a)) → (t x u y : List Lexeme) (v w : Y) → length t ≤ n → Seq F K t v → Seq F K u w → t ++ x ≡ u ++ y → (v ≡ w) × (x ≡ y)
 clear_seq_at n F K cf ck t x u y v w le p q e =
-    let is : p.first ++ (p.second ++ x) ≡ q.first ++ (q.second ++ y) = sym (append_assoc p.first p.second x) ∙ ap (λ (z : List Lexeme). z ++ x) (sym p.parts) ∙ e ∙ ap (λ (z : List Lexeme). z ++ y) q.parts ∙ append_assoc q.first q.second y in
+    let is : p.first ++ (p.second ++ x) ≡ q.first ++ (q.second ++ y) =
+    sym (append_assoc p.first p.second x) ∙ ap (λ (z : List Lexeme). z ++ x) (sym p.parts)
+    ∙ e ∙ ap (λ (z : List Lexeme). z ++ y) q.parts ∙ append_assoc q.first q.second y in
     let len : length t ≡ length p.first + length p.second = ap length p.parts ∙ length-append p.first p.second in
     let one = cf.apart p.first (p.second ++ x) q.first (q.second ++ y) p.value q.value (omega arith) p.prefix q.prefix is in
     (ck q.value).apart p.second x q.second y v w (omega arith) (subst (λ (z : _). K z p.second v) one.0 p.back) q.back one.1

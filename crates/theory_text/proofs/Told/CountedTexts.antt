@@ -37,7 +37,9 @@ clear_after_at : {A Y : Type 0} (n : ℕ) (F : List Lexeme → A → Type 0) (K 
     → Clear_to (suc n) F → ((a : A) → Clear_to n (K a)) → (t x u y : List Lexeme) (v w : Y) → length t ≤ suc n → Seq F K t v → Seq F K u w
     → t ++ x ≡ u ++ y → (v ≡ w) × (x ≡ y)
 clear_after_at n F K nothing cf ck t x u y v w le p q e =
-    let is : p.first ++ (p.second ++ x) ≡ q.first ++ (q.second ++ y) = sym (append_assoc p.first p.second x) ∙ ap (λ (z : List Lexeme). z ++ x) (sym p.parts) ∙ e ∙ ap (λ (z : List Lexeme). z ++ y) q.parts ∙ append_assoc q.first q.second y in
+    let is : p.first ++ (p.second ++ x) ≡ q.first ++ (q.second ++ y) =
+    sym (append_assoc p.first p.second x) ∙ ap (λ (z : List Lexeme). z ++ x) (sym p.parts)
+    ∙ e ∙ ap (λ (z : List Lexeme). z ++ y) q.parts ∙ append_assoc q.first q.second y in
     let len : length t ≡ length p.first + length p.second = ap length p.parts ∙ length-append p.first p.second in
     let some = some_length F nothing p.first p.value p.prefix in
     let one = cf.apart p.first (p.second ++ x) q.first (q.second ++ y) p.value q.value (omega arith) p.prefix q.prefix is in

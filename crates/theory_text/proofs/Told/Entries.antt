@@ -71,7 +71,8 @@ head_clear_to n = clear_seq (clear_to (clear_as the_name))
 head_text : (t : List Lexeme) (h : List ℕ × EntryKind) → Head t h → t ≡ name (h.0) ∷ symbol mark.Colon ∷ kind_token (h.1) ∷ []
 head_text t h s =
     let r = s.back.back in
-    let is : t ≡ name s.value ∷ symbol mark.Colon ∷ kind_token r.value ∷ [] = s.parts ∙ rw (s.prefix.single, s.back.parts, s.back.prefix.single, r.parts, r.prefix.single, r.back.empty) refl in
+    let is : t ≡ name s.value ∷ symbol mark.Colon ∷ kind_token r.value ∷ [] =
+    s.parts ∙ rw (s.prefix.single, s.back.parts, s.back.prefix.single, r.parts, r.prefix.single, r.back.empty) refl in
     is ∙ ap (λ (z : List ℕ × EntryKind). name (z.0) ∷ symbol mark.Colon ∷ kind_token (z.1) ∷ []) r.back.same
 
 -- ---- the rest of an entry
@@ -133,7 +134,8 @@ deposit_text : (persists : Bool) (party : List ℕ) (t : List Lexeme) (p : Pre) 
     × (t ≡ number v ∷ symbol mark.At ∷ name x ∷ []) × (deposit_of persists party v x ≡ p)
 deposit_text persists party t p s =
     let r = s.back.back in
-    let is : t ≡ number s.value ∷ symbol mark.At ∷ name r.value ∷ [] = s.parts ∙ rw (s.prefix.single, s.back.parts, s.back.prefix.single, r.parts, r.prefix.single, r.back.empty) refl in
+    let is : t ≡ number s.value ∷ symbol mark.At ∷ name r.value ∷ [] =
+    s.parts ∙ rw (s.prefix.single, s.back.parts, s.back.prefix.single, r.parts, r.prefix.single, r.back.empty) refl in
     (s.value, r.value, is, r.back.same)
 
 entry_rest_to : (k : EntryKind) (party : List ℕ) (t u : List Lexeme) (room : Room) (p : Pre) → t ≡ name party ∷ symbol mark.Colon
@@ -154,7 +156,8 @@ entry_rest_to secret party t u room p is s =
 entry_to : (room : Room) (t : List Lexeme) (v : Pre × Room) → EntrySeq room t v → EntryText room t v
 entry_to room t v s =
     let h = s.value in
-    let is : t ≡ name h.0 ∷ symbol mark.Colon ∷ kind_token h.1 ∷ s.back.first = s.parts ∙ rw (head_text s.first s.value s.prefix, s.back.parts, s.back.back.empty, append-nil s.back.first) refl in
+    let is : t ≡ name h.0 ∷ symbol mark.Colon ∷ kind_token h.1 ∷ s.back.first =
+    s.parts ∙ rw (head_text s.first s.value s.prefix, s.back.parts, s.back.back.empty, append-nil s.back.first) refl in
     subst (EntryText room t) s.back.back.same (entry_rest_to h.1 h.0 t s.back.first room s.back.value is s.back.prefix)
 
 head_of : (party : List ℕ) (k : EntryKind) → Head (name party ∷ symbol mark.Colon ∷ kind_token k ∷ []) (party, k)
@@ -366,7 +369,8 @@ entries_from room t (p ∷ []) l = record {
 }
 entries_from room t (p ∷ q ∷ ps) l =
     let rest : List Lexeme = entry q ++ (more_entries ps ++ symbol mark.RightBrace ∷ []) in
-    let is : t ≡ entry p ++ symbol mark.Bar ∷ rest = l ∙ ap (λ (z : List Lexeme). entry p ++ symbol mark.Bar ∷ z) (append_assoc (entry q) (more_entries ps) (symbol mark.RightBrace ∷ [])) in
+    let is : t ≡ entry p ++ symbol mark.Bar ∷ rest =
+    l ∙ ap (λ (z : List Lexeme). entry p ++ symbol mark.Bar ∷ z) (append_assoc (entry q) (more_entries ps) (symbol mark.RightBrace ∷ [])) in
     record {
       first = entry p;
       second = symbol mark.Bar ∷ rest;

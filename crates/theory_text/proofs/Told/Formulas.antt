@@ -155,7 +155,8 @@ signed_to t false e f te tf is l m = (te, tf, ap (λ (u : List Lexeme). symbol m
 pair_to : (t : List Lexeme) (v : Expr) → Pair t v → Behind (symbol mark.LeftParen) SpellsFormula t v
 pair_to t v s =
     let r = s.back.back in
-    let is : t ≡ s.first ++ sign_token s.back.value ∷ (r.first ++ symbol mark.RightParen ∷ []) = s.parts ∙ rw (s.back.parts, s.back.prefix.single, r.parts, r.back.parts, r.back.prefix.single, r.back.back.empty) refl in
+    let is : t ≡ s.first ++ sign_token s.back.value ∷ (r.first ++ symbol mark.RightParen ∷ []) =
+    s.parts ∙ rw (s.back.parts, s.back.prefix.single, r.parts, r.back.parts, r.back.prefix.single, r.back.back.empty) refl in
     subst (Behind (symbol mark.LeftParen) SpellsFormula t) r.back.back.same (signed_to t s.back.value s.value r.value s.first r.first is s.prefix r.prefix)
 
 pair_of : (t : List Lexeme) (o : Bool) (e f : Expr) (te tf : List Lexeme) → symbol mark.LeftParen ∷ t ≡ symbol mark.LeftParen
@@ -200,7 +201,10 @@ pair_from t (minus e f) l = pair_of t false e f l.0 l.1 l.2 l.3 l.4
 -- ---- where an expression ends
 
 number_from : (n : ℕ) (t : List Lexeme) (a : Expr) → Behind (number n) SpellsFormula t a → Nothing (constant n) t a
-number_from n t (constant m) l = record { empty = cc; same = let e = head_is (number n) (number m) t [] l in let same : n ≡ m = cc in ap (λ (z : ℕ). constant z) same }
+number_from n t (constant m) l = record {
+  empty = cc;
+  same = let e = head_is (number n) (number m) t [] l in let same : n ≡ m = cc in ap (λ (z : ℕ). constant z) same;
+}
 number_from n t (length_of x) l = absurd cc
 number_from n t (plus e f) l = let q = l.2 in absurd cc
 number_from n t (minus e f) l = let q = l.2 in absurd cc

@@ -216,7 +216,8 @@ put_from th [] (a ∷ as') p l = let k = l.1 in absurd cc
 put_from th (x ∷ xs) (a ∷ as') p l =
     let is : th ≡ names x xs ++ symbol mark.Ampersand ∷ l.0 = tail_is (keyword word.Put) (keyword word.Put) th _ l.1 in
     let r = l.2 in
-    let text : l.0 ++ symbol mark.Dot ∷ [] ≡ keyword word.Reveal ∷ ((names a as' ++ r.0) ++ symbol mark.Dot ∷ []) = ap (λ (u : List Lexeme). u ++ symbol mark.Dot ∷ []) r.1 in
+    let text : l.0 ++ symbol mark.Dot ∷ [] ≡ keyword word.Reveal ∷ ((names a as' ++ r.0) ++ symbol mark.Dot ∷ []) =
+    ap (λ (u : List Lexeme). u ++ symbol mark.Dot ∷ []) r.1 in
     record {
       first = names x xs ++ symbol mark.Ampersand ∷ [];
       second = l.0 ++ symbol mark.Dot ∷ [];
@@ -264,7 +265,9 @@ revealed t first second [] e p is l k = absurd l
 revealed t first second (a ∷ as') e p is l k =
     let c = condition_to e second p k in
     let one : t ≡ (names a as' ++ reveal_token e ∷ []) ++ second = is ∙ ap (λ (u : List Lexeme). u ++ second) l in
-    let two : t ≡ (names a as' ++ c.0) ++ symbol mark.Dot ∷ [] = one ∙ append_assoc (names a as') (reveal_token e ∷ []) second ∙ ap (λ (u : List Lexeme). names a as' ++ u) c.1 ∙ sym (append_assoc (names a as') c.0 (symbol mark.Dot ∷ [])) in
+    let two : t ≡ (names a as' ++ c.0) ++ symbol mark.Dot ∷ [] =
+    one ∙ append_assoc (names a as') (reveal_token e ∷ []) second
+    ∙ ap (λ (u : List Lexeme). names a as' ++ u) c.1 ∙ sym (append_assoc (names a as') c.0 (symbol mark.Dot ∷ [])) in
     (keyword word.Reveal ∷ (names a as' ++ c.0), ap (λ (u : List Lexeme). keyword word.Reveal ∷ u) two, (c.0, refl, c.2))
 
 reveals_to : (puts : List (List ℕ)) (t : List Lexeme) (h : Heading) → Reveals puts t h → (puts ≡ h.0) × (th : List Lexeme)
@@ -289,7 +292,9 @@ put_and_reveals : (t first second th : List Lexeme) (x : List ℕ) (xs reveals :
     → HeadedBy (keyword word.Put) t (x ∷ xs, reveals, p)
 put_and_reveals t first second th x xs [] p is is2 l = absurd l
 put_and_reveals t first second th x xs (a ∷ as') p is is2 l =
-    let one : t ≡ (names x xs ++ symbol mark.Ampersand ∷ th) ++ symbol mark.Dot ∷ [] = is ∙ append_assoc (names x xs) (symbol mark.Ampersand ∷ []) second ∙ ap (λ (u : List Lexeme). names x xs ++ symbol mark.Ampersand ∷ u) is2 ∙ sym (append_assoc (names x xs) (symbol mark.Ampersand ∷ th) (symbol mark.Dot ∷ [])) in
+    let one : t ≡ (names x xs ++ symbol mark.Ampersand ∷ th) ++ symbol mark.Dot ∷ [] =
+    is ∙ append_assoc (names x xs) (symbol mark.Ampersand ∷ []) second ∙ ap (λ (u : List Lexeme). names x xs ++ symbol mark.Ampersand ∷ u) is2
+    ∙ sym (append_assoc (names x xs) (symbol mark.Ampersand ∷ th) (symbol mark.Dot ∷ [])) in
     (keyword word.Put ∷ (names x xs ++ symbol mark.Ampersand ∷ th), ap (λ (u : List Lexeme). keyword word.Put ∷ u) one, (th, refl, l))
 
 put_at_end : (t first second : List Lexeme) (xs : List (List ℕ)) (e : Bool) (h : Heading) → t ≡ first ++ second

@@ -52,7 +52,8 @@ names_apart : {E : Type 0} (tok : E → Lexeme) (ends : Lexeme → Seen E) → E
 names_apart tok ends en t x u y [] ys e f l m h = absurd l
 names_apart tok ends en t x u y (a ∷ xs) [] e f l m h = absurd m
 names_apart tok ends en t x u y (a ∷ xs) (b ∷ ys) e f l m h =
-    let whole : (name a ∷ (more_names xs ++ tok e ∷ [])) ++ x ≡ (name b ∷ (more_names ys ++ tok f ∷ [])) ++ y = ap (λ (z : List Lexeme). z ++ x) (sym l) ∙ h ∙ ap (λ (z : List Lexeme). z ++ y) m in
+    let whole : (name a ∷ (more_names xs ++ tok e ∷ [])) ++ x ≡ (name b ∷ (more_names ys ++ tok f ∷ [])) ++ y =
+    ap (λ (z : List Lexeme). z ++ x) (sym l) ∙ h ∙ ap (λ (z : List Lexeme). z ++ y) m in
     let names : a ≡ b = cc in
     let rest : (more_names xs ++ tok e ∷ []) ++ x ≡ (more_names ys ++ tok f ∷ []) ++ y = cc in
     let r = later_apart tok ends en xs ys e f x y rest in
@@ -125,7 +126,9 @@ later_first : {E : Type 0} (tok : E → Lexeme) (ends : Lexeme → Seen E) → E
 later_first tok ends en d t [] e l h =
     let is : d ≡ tok e = head_is d (tok e) t [] l in
     en.sees.refuses d e (comma_wrong ends d h) (subst (λ (z : Lexeme). StandsFor d z) is (stands_itself d))
-later_first tok ends en d t (x ∷ xs) e l h = let k : comma_or ends (symbol mark.Comma) ≡ wrong = subst (λ (z : Lexeme). comma_or ends z ≡ wrong) (head_is d (symbol mark.Comma) t _ l) h in absurd cc
+later_first tok ends en d t (x ∷ xs) e l h =
+    let k : comma_or ends (symbol mark.Comma) ≡ wrong = subst (λ (z : Lexeme). comma_or ends z ≡ wrong) (head_is d (symbol mark.Comma) t _ l) h in
+    absurd cc
 
 later_begins : {E : Type 0} (tok : E → Lexeme) (ends : Lexeme → Seen E) → Ends tok ends → (c : Lexeme) (o : Option E) → comma_or ends c
     ≡ taken o → Some_text (Behind c (Later tok))

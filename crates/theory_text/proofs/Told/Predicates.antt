@@ -180,9 +180,16 @@ starts_word (symbol mark.LeftBracket) = true
 starts_word _ = false
 
 comparison_from : (c : Lexeme) (t : List Lexeme) (p : Pred) → starts_word c ≡ false → SpellsTest (c ∷ t) p → Comparison (c ∷ t) p
-comparison_from c t always h l = let k : starts_word (keyword word.True) ≡ false = subst (λ (z : Lexeme). starts_word z ≡ false) (head_is c (keyword word.True) t [] l) h in absurd cc
-comparison_from c t (both p q) h l = let k : starts_word (symbol mark.LeftBracket) ≡ false = subst (λ (z : Lexeme). starts_word z ≡ false) (head_is c (symbol mark.LeftBracket) t _ l.2) h in absurd cc
-comparison_from c t (negation p) h l = let k : starts_word (keyword word.Not) ≡ false = subst (λ (z : Lexeme). starts_word z ≡ false) (head_is c (keyword word.Not) t _ l.1) h in absurd cc
+comparison_from c t always h l =
+    let k : starts_word (keyword word.True) ≡ false = subst (λ (z : Lexeme). starts_word z ≡ false) (head_is c (keyword word.True) t [] l) h in
+    absurd cc
+comparison_from c t (both p q) h l =
+    let k : starts_word (symbol mark.LeftBracket) ≡ false =
+    subst (λ (z : Lexeme). starts_word z ≡ false) (head_is c (symbol mark.LeftBracket) t _ l.2) h in
+    absurd cc
+comparison_from c t (negation p) h l =
+    let k : starts_word (keyword word.Not) ≡ false = subst (λ (z : Lexeme). starts_word z ≡ false) (head_is c (keyword word.Not) t _ l.1) h in
+    absurd cc
 comparison_from c t (equal e f) h l = comparison_of (c ∷ t) true e f l.0 l.1 l.2 l.3 l.4
 comparison_from c t (less e f) h l = comparison_of (c ∷ t) false e f l.0 l.1 l.2 l.3 l.4
 
@@ -247,7 +254,8 @@ Both =
 both_to : (t : List Lexeme) (p : Pred) → Both t p → Behind (symbol mark.LeftBracket) SpellsTest t p
 both_to t p s =
     let r = s.back.back in
-    let is : t ≡ s.first ++ keyword word.And ∷ (r.first ++ symbol mark.RightBracket ∷ []) = s.parts ∙ rw (s.back.parts, s.back.prefix.single, r.parts, r.back.parts, r.back.prefix.single, r.back.back.empty) refl in
+    let is : t ≡ s.first ++ keyword word.And ∷ (r.first ++ symbol mark.RightBracket ∷ []) =
+    s.parts ∙ rw (s.back.parts, s.back.prefix.single, r.parts, r.back.parts, r.back.prefix.single, r.back.back.empty) refl in
     subst (Behind (symbol mark.LeftBracket) SpellsTest t) r.back.back.same
     ((s.first, r.first, ap (λ (u : List Lexeme). symbol mark.LeftBracket ∷ u) is, s.prefix, r.prefix))
 

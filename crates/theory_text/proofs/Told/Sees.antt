@@ -55,7 +55,8 @@ token_at tok see s c ts wrong h = record {
     ends = λ d e after further a at stands l. refused tok see s c ts h d e after further a at stands l;
   };
 }
-token_at tok see s c ts (above w) h = let x = s.exceeds c w h in exceeded_first (As tok) c (tok x.0) ts w x.1 (record { text = []; value = x.0; spelled = record { single = refl } })
+token_at tok see s c ts (above w) h =
+    let x = s.exceeds c w h in exceeded_first (As tok) c (tok x.0) ts w x.1 (record { text = []; value = x.0; spelled = record { single = refl } })
 
 token_tells : {A : Type 0} (tok : A → Lexeme) (see : Lexeme → Seen A) → Sees tok see → (ts : List Lexeme) → Tells (As tok) ts (token_by see ts)
 token_tells tok see s [] = record {

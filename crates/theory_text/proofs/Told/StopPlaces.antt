@@ -115,7 +115,9 @@ exceeded_at : (t : List Lexeme) (left : ℕ) → Exceeded Spells t left → IsLi
 exceeded_at t left s =
     let len : length t ≡ length s.prefix + suc (length s.after) = ap length s.parts ∙ length-append s.prefix (s.next ∷ s.after) in
     let place : length t - left ≡ length s.prefix = omega (arith, s.left_is) in
-    let prefixes : take (length s.prefix + 1) t ≡ s.prefix ++ s.next ∷ [] = ap (take (length s.prefix + 1)) (s.parts ∙ sym (append_assoc s.prefix (s.next ∷ []) s.after)) ∙ take_at (s.prefix ++ s.next ∷ []) s.after (length s.prefix + 1) (length-append s.prefix (s.next ∷ [])) in
+    let prefixes : take (length s.prefix + 1) t ≡ s.prefix ++ s.next ∷ [] =
+    ap (take (length s.prefix + 1)) (s.parts ∙ sym (append_assoc s.prefix (s.next ∷ []) s.after))
+    ∙ take_at (s.prefix ++ s.next ∷ []) s.after (length s.prefix + 1) (length-append s.prefix (s.next ∷ [])) in
     rw place (record {
       within = omega arith;
       begins = record {

@@ -74,7 +74,8 @@ pure a = record {
 pub whole : {A : Type 0} (F : List Lexeme → A → Type 0) → Clear F → (prefix more first m : List Lexeme) (next : Lexeme) (a b : A)
     → F first a → F (prefix ++ next ∷ more) b → prefix ≡ first ++ m → ⊥
 whole F clear prefix more first m next a b l k e =
-    let is : first ++ (m ++ next ∷ more) ≡ (prefix ++ next ∷ more) ++ [] = sym (append_assoc first m (next ∷ more)) ∙ ap (λ (u : List Lexeme). u ++ next ∷ more) (sym e) ∙ sym (append-nil (prefix ++ next ∷ more)) in
+    let is : first ++ (m ++ next ∷ more) ≡ (prefix ++ next ∷ more) ++ [] =
+    sym (append_assoc first m (next ∷ more)) ∙ ap (λ (u : List Lexeme). u ++ next ∷ more) (sym e) ∙ sym (append-nil (prefix ++ next ∷ more)) in
     not_empty m next more (clear.apart first (m ++ next ∷ more) (prefix ++ next ∷ more) [] a b l k is).1
 
 -- a longer first part begins with the next token

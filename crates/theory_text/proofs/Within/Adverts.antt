@@ -178,7 +178,8 @@ advert_readable : (ps : List Pre) (fee : ℕ) (c : Contract × ℕ) → EntriesW
     → ChoiceWithin most_depth most_choices most_branches c → IsReadable (advert_of ps fee c.0)
 advert_readable ps fee c e small is =
     let pre : is_readable_pre ps ≡ true = and_is _ _ (and_is _ _ e.some e.readable) (and_is _ _ (le_yes _ _ e.deposits') (le_yes _ _ e.secrets')) in
-    let root : is_readable_contract c.0 ≡ true = and_is _ _ (and_is _ _ (count_is c.0 is.some is.few) is.readable) (and_is _ _ (le_yes _ _ is.depth) (le_yes _ _ (omega (arith, is.count)))) in
+    let root : is_readable_contract c.0 ≡ true =
+    and_is _ _ (and_is _ _ (count_is c.0 is.some is.few) is.readable) (and_is _ _ (le_yes _ _ is.depth) (le_yes _ _ (omega (arith, is.count)))) in
     and_is _ _ pre (and_is _ _ small root)
 
 advert_within : (ts : List Lexeme) → HaveNames ts → Within IsReadable (advert_at ts)

@@ -108,7 +108,10 @@ more_branches d b k r s is more =
 
 behind_branch : (read : BranchReader) (d k b : ℕ) (r : Guarded × ℕ) (ts : List Lexeme) (t : Bool) → AllowedWithin d b (suc k) r
     → HaveNames ts → Within (ChoiceWithin d k r.1) (branches_at read d k r.1 ts)
-    → Within (ChoiceWithin d (suc k) b) (elim t [ true ↦ branches_at read d k (r.1) ts >>= λ s. Ok ((branch (r.0) (s.0.0), s.0.1), s.1) | false ↦ Ok ((branch (r.0) no_branch, r.1), ts) ])
+    → Within (ChoiceWithin d (suc k) b) (elim t [
+      | true ↦ branches_at read d k (r.1) ts >>= λ s. Ok ((branch (r.0) (s.0.0), s.0.1), s.1)
+      | false ↦ Ok ((branch (r.0) no_branch, r.1), ts)
+    ])
 behind_branch read d k b r ts true is h more =
     within_then (ChoiceWithin d k r.1) (ChoiceWithin d (suc k) b) _ _ more (λ s us so l. (more_branches d b k r s is so, l))
 behind_branch read d k b r ts false is h more = (last_branch d b (suc k) r is, h)
@@ -168,7 +171,10 @@ more_parts d k b v c r small is more =
 
 behind_part : (read : ChoiceReader) (d k b v : ℕ) (c : Contract × ℕ) (ts : List Lexeme) (t : Bool) → IsAtMost max_money v
     → ChoiceWithin d most_choices b c → HaveNames ts → Within (PartsWithin d k c.1) (parts_at read k c.1 ts)
-    → Within (PartsWithin d (suc k) b) (elim t [ true ↦ parts_at read k (c.1) ts >>= λ r. Ok ((part v (c.0) (r.0.0), r.0.1), r.1) | false ↦ Ok ((part v (c.0) no_part, c.1), ts) ])
+    → Within (PartsWithin d (suc k) b) (elim t [
+      | true ↦ parts_at read k (c.1) ts >>= λ r. Ok ((part v (c.0) (r.0.0), r.0.1), r.1)
+      | false ↦ Ok ((part v (c.0) no_part, c.1), ts)
+    ])
 behind_part read d k b v c ts true small is h more =
     within_then (PartsWithin d k c.1) (PartsWithin d (suc k) b) _ _ more (λ r us so l. (more_parts d k b v c r small is so, l))
 behind_part read d k b v c ts false small is h more = (last_part d k b v c small is, h)

@@ -90,7 +90,8 @@ pub record AreNames {E : Type 0} (awaited : Bool) (r : List (List ℕ) × E) : T
   pub all : list_all is_name r.0 ≡ true
   pub some : awaited ≡ true → is_some_list r.0 ≡ true
 
-ended : {E : Type 0} (ends : Lexeme → Seen E) (ts : List Lexeme) (o : Option E) → HaveNames ts → Within (AreNames true) (names_from ends true ts) → Within (AreNames false) (elim o [ None ↦ names_from ends true ts | Some e ↦ Ok (([], e), ts) ])
+ended : {E : Type 0} (ends : Lexeme → Seen E) (ts : List Lexeme) (o : Option E) → HaveNames ts → Within (AreNames true) (names_from ends true ts)
+    → Within (AreNames false) (elim o [ None ↦ names_from ends true ts | Some e ↦ Ok (([], e), ts) ])
 ended ends ts None h t = within_weak (AreNames true) (AreNames false) _ (λ x n. record { all = n.all; some = λ no'. absurd cc }) t
 ended ends ts (Some e) h t = (record { all = refl; some = λ n. absurd cc }, h)
 

@@ -122,10 +122,12 @@ module _ (s : Setup) (size : HashesBytes s.hash) (g : Configuration) (w : World)
       by_origin : (o.outpoint.txid ≡ opening_id s) ⊎ From s w o.outpoint.txid → ⊥
       by_origin (inl f) =
           let op = opening_transaction (opening_outputs s) in
-          let m = double-apart s.hash hs clear (stripped op) (stripped tx) (sub _ kept.opened.0) (sub _ kept.opened.1) (heard_bytes s w hs tx all) (heard_bytes_hash s w hs tx all) (sym f ∙ e) in
+          let m = double-apart s.hash hs clear (stripped op)
+          (stripped tx) (sub _ kept.opened.0) (sub _ kept.opened.1) (heard_bytes s w hs tx all) (heard_bytes_hash s w hs tx all) (sym f ∙ e) in
           inputless_apart op tx refl some_inputs m
       by_origin (inr f) =
-          let m = double-apart s.hash hs clear (stripped f.tx) (stripped tx) (sub _ f.first) (sub _ f.second) (heard_bytes s w hs tx all) (heard_bytes_hash s w hs tx all) (sym f.is ∙ e) in
+          let m = double-apart s.hash hs clear (stripped f.tx)
+          (stripped tx) (sub _ f.first) (sub _ f.second) (heard_bytes s w hs tx all) (heard_bytes_hash s w hs tx all) (sym f.is ∙ e) in
           let b = stripped-apart f.tx tx f.no_scripts scripts_none f.fits fits m in
           let i = first_input tx.inputs acc.some in
           let j = bare_in tx.inputs f.tx.inputs i.0 (ap (λ (x : Tx). x.inputs) (sym b)) i.1 in
@@ -134,7 +136,9 @@ module _ (s : Setup) (size : HashesBytes s.hash) (g : Configuration) (w : World)
 
   -- ---- the next world
 
-  module _ (held : ℕ → Option ContractPosition) (g' : Configuration) (next : World) (outs : next.outputs ≡ spend_from 0 spent w.outputs ++ made_from held (txid s.hash tx) 0 tx.outputs) (f : Frame s g g' w next) (heard_next : next.hashed ≡ hs) (few : length tx.outputs ≤ 2 ^ 32) where
+  module _ (held : ℕ → Option ContractPosition)
+      (g' : Configuration) (next : World) (outs : next.outputs ≡ spend_from 0 spent w.outputs ++ made_from held (txid s.hash tx) 0 tx.outputs)
+      (f : Frame s g g' w next) (heard_next : next.hashed ≡ hs) (few : length tx.outputs ≤ 2 ^ 32) where
     -- an output of the next world is an old one or a new one
     pub data Place (n : ℕ) (o : Output) : Type 0 where
       old : (p : Output) → slice_get w.outputs n ≡ Some p → SameOutput p o → (o.live ≡ true → p.live ≡ true) → Place n o
@@ -142,13 +146,22 @@ module _ (s : Setup) (size : HashesBytes s.hash) (g : Configuration) (w : World)
           ≡ record { outpoint = record { txid = txid s.hash tx; vout = m }; value = x.value; script = x.script; live = true; holds = held m } → Place n o
 
     pub where_is : (n : ℕ) (o : Output) → slice_get next.outputs n ≡ Some o → Place n o
-    where_is n o h = elim (get-split (spend_from 0 spent w.outputs) (made_from held (txid s.hash tx) 0 tx.outputs) n o (subst (λ os. slice_get os n ≡ Some o) outs h)) [
-      | inl a ↦ by_old (slice_get w.outputs n) refl (sym (get-spent 0 n spent w.outputs) ∙ a)
-      | inr b ↦ (let r = get-made held (txid s.hash tx) 0 b.0 tx.outputs o b.2 in let z : b.0 + 0 ≡ b.0 = omega arith in new b.0 r.0 r.1 (b.1 ∙ ap (λ k. k + b.0) (length-spend_from 0 spent w.outputs)) (rw z at r.2))
-    ]
+    where_is n o h =
+        elim (get-split (spend_from 0 spent w.outputs) (made_from held (txid s.hash tx) 0 tx.outputs) n o (subst (λ os. slice_get os n ≡ Some o) outs h)) [
+          | inl a ↦ by_old (slice_get w.outputs n) refl (sym (get-spent 0 n spent w.outputs) ∙ a)
+          | inr b ↦ (let r = get-made held (txid s.hash tx) 0 b.0 tx.outputs o b.2 in
+              let z : b.0 + 0 ≡ b.0 = omega arith in new b.0 r.0 r.1 (b.1 ∙ ap (λ k. k + b.0) (length-spend_from 0 spent w.outputs)) (rw z at r.2))
+        ]
       where
         by_test : (p : Output) → slice_get w.outputs n ≡ Some p → (t : Bool) → (if t then record p { live = false } else p) ≡ o → Place n o
-        by_test p e true q = old p e (record { outpoint = ap (λ (x : Output). x.outpoint) (sym q); script = ap (λ (x : Output). x.script) (sym q); value = ap (λ (x : Output). x.value) (sym q); holds = ap (λ (x : Output). x.holds) (sym q); dead = λ x. ap (λ (x : Output). x.live) (sym q) }) (λ l. let d = ap (λ (x : Output). x.live) (sym q) in absurd (both_ways _ d l))
+        by_test p e true q =
+            old p e (record {
+              outpoint = ap (λ (x : Output). x.outpoint) (sym q);
+              script = ap (λ (x : Output). x.script) (sym q);
+              value = ap (λ (x : Output). x.value) (sym q);
+              holds = ap (λ (x : Output). x.holds) (sym q);
+              dead = λ x. ap (λ (x : Output). x.live) (sym q);
+            }) (λ l. let d = ap (λ (x : Output). x.live) (sym q) in absurd (both_ways _ d l))
         by_test p e false q = old p e (record {
           outpoint = ap (λ (x : Output). x.outpoint) (sym q);
           script = ap (λ (x : Output). x.script)
@@ -187,9 +200,11 @@ module _ (s : Setup) (size : HashesBytes s.hash) (g : Configuration) (w : World)
     spent_all (n ∷ ns) (i ∷ is) h more str =
         let sp = h.0 in
         let z : n + 0 ≡ n = omega arith in
-        let there : slice_get (spend_from 0 spent w.outputs) n ≡ Some (record sp.output { live = false }) = get-spent 0 n spent w.outputs ∙ rw (sp.there, z, more n (or_left _ _ (eq-eqb n n refl))) refl in
+        let there : slice_get (spend_from 0 spent w.outputs) n ≡ Some (record sp.output { live = false }) =
+        get-spent 0 n spent w.outputs ∙ rw (sp.there, z, more n (or_left _ _ (eq-eqb n n refl))) refl in
         let hi = heard_input s w hs tx all i n (λ t k. str i t (inl refl) k) sp in
-        let sg : (a : List ℕ) → is_declared s a ≡ true → sp.output.script ≡ paid_to s a → (script_of i.witness ≡ party_script s.hash a) × (has_signed w.book (deposit_key s.hash a) (digest s.hash tx i (party_script s.hash a) sp.output.value) ≡ true) =
+        let sg : (a : List ℕ) → is_declared s a ≡ true → sp.output.script ≡ paid_to s a → (script_of i.witness ≡ party_script s.hash a)
+        × (has_signed w.book (deposit_key s.hash a) (digest s.hash tx i (party_script s.hash a) sp.output.value) ≡ true) =
         λ a k e. deposit_signed s size g w kept fit check hs clear sub tx fits scripts_none lists n i sp hi.script a k e in (
           record {
             number = n;
@@ -234,7 +249,11 @@ module _ (s : Setup) (size : HashesBytes s.hash) (g : Configuration) (w : World)
       where
         by_place : Place n o → IsPlace o.outpoint
         by_place (old p e sp l) = subst IsPlace (sym sp.outpoint) (kept.placed_fine n p e)
-        by_place (new m x hx nx ox) = subst IsPlace (ap (λ (y : Output). y.outpoint) (sym ox)) (record { txid = size.bytes (s.hash (stripped tx)); size = size.size (s.hash (stripped tx)); vout = (let r = get_below tx.outputs m x hx in omega (arith, r, few)) })
+        by_place (new m x hx nx ox) = subst IsPlace (ap (λ (y : Output). y.outpoint) (sym ox)) (record {
+          txid = size.bytes (s.hash (stripped tx));
+          size = size.size (s.hash (stripped tx));
+          vout = (let r = get_below tx.outputs m x hx in omega (arith, r, few));
+        })
 
     -- the rest must be shown of the new outputs
     pub accepts : ((k : ℕ) (st : Instance) → compiled_instance s next k ≡ Some st → compiled_instance s w k ≡ Some st)
@@ -300,7 +319,8 @@ module _ (s : Setup) (size : HashesBytes s.hash) (g : Configuration) (w : World)
                 let hf = held_new m y (record { contract = k; position = q }) o hx (ap (λ (z : Output). z.holds) (sym ox) ∙ hd) ox in
                 let st_same : (let z : Option Instance = Some hf.instance in z) ≡ Some st = sym (back k hf.instance hf.compiled) ∙ c in
                 let st_is : hf.instance ≡ st = cc in
-                let pos : (let z : Option (Standing × Contract) = Some (hf.here, hf.choice) in z) ≡ Some (here, choice) = sym (subst (λ u. position_at s.hash u q ≡ Some (hf.here, hf.choice)) st_is hf.stands) ∙ e in
+                let pos : (let z : Option (Standing × Contract) = Some (hf.here, hf.choice) in z) ≡ Some (here, choice) =
+                sym (subst (λ u. position_at s.hash u q ≡ Some (hf.here, hf.choice)) st_is hf.stands) ∙ e in
                 let pr : (let z : Standing × Contract = (hf.here, hf.choice) in z) ≡ (here, choice) = cc in
                 let here_is : hf.here ≡ here = ap (λ (z : Standing × Contract). z.0) pr in
                 let r = h.existed x in

@@ -82,7 +82,10 @@ module _ (s : Setup) (size : HashesBytes s.hash) (few_contracts : length s.contr
   first_taken h hf =
       let here : Is_in fst.input tx.inputs = subst (Is_in fst.input) (sym fst.inputs_is) (inl refl) in
       let hi = heard_input s w hs tx all fst.input fst.number (λ t l. all_strings_of s w tx fst.input t here l) fst.spends in
-      let hd : HeardDigest s hs tx fst.input (verdict.script_of fst.input.witness) fst.spends.output.value = record { first = hi.signed; second = hi.signed_hash } in
+      let hd : HeardDigest s hs tx fst.input (verdict.script_of fst.input.witness) fst.spends.output.value = record {
+        first = hi.signed;
+        second = hi.signed_hash;
+      } in
       let p : IsPlace fst.input.prev = (subst AllPlaces fst.inputs_is fits.places).0 in
       taken s size g w kept fit check hs clear sub tx fits (scripts_none s size g w kept fit check hs clear sub tx fits spent acc all)
       (lists s size g w kept fit check hs clear sub tx fits spent acc all)
@@ -119,7 +122,8 @@ module _ (s : Setup) (size : HashesBytes s.hash) (few_contracts : length s.contr
       ∙ (λ j. Takes h (first_number (fst.spent_is j)) (chosen_by (branch_count s h) (first_witness (fst.inputs_is j))))
       ∙ ap (Takes h fst.number) ch
 
-  pub kind_taken : (h : ContractPosition) (e : fst.spends.output.holds ≡ Some h) → initial_of s w tx ≡ None → (let t = first_taking h e in kind_of s w tx spent ≡ Takes h fst.number t.index)
+  pub kind_taken : (h : ContractPosition) (e : fst.spends.output.holds ≡ Some h)
+      → initial_of s w tx ≡ None → (let t = first_taking h e in kind_of s w tx spent ≡ Takes h fst.number t.index)
   unfolding first_taking
   kind_taken h e i = let hf = kept.held fst.number fst.spends.output h fst.spends.there e in kind_opened h e i hf (first_taken h hf)
 

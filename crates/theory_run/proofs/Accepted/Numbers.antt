@@ -74,7 +74,8 @@ entries_total pre (n ∷ names) = by_option (look_up n (volatile pre)) (entries_
 
 -- ---- numbers
 
-module _ (s : Setup) (g : Configuration) (w : World) (kept : KeptBook s g w) (k : ℕ) (st : Instance) (compiled : compiled_instance s w k ≡ Some st) (tx : Tx) where
+module _ (s : Setup) (g : Configuration)
+    (w : World) (kept : KeptBook s g w) (k : ℕ) (st : Instance) (compiled : compiled_instance s w k ≡ Some st) (tx : Tx) where
   abbrev bindings : List (List ℕ × ℕ)
   bindings = bindings_at w.advertised k
 
@@ -107,7 +108,8 @@ module _ (s : Setup) (g : Configuration) (w : World) (kept : KeptBook s g w) (k 
       let d' : is_deposit (Some sp.output) ≡ true = and_from _ _ sp.live (ap is_none free) in
       let v : deposit_value (slice_get w.outputs n) ≡ (x.1).value = ap deposit_value sp.there ∙ rw d' (ap (λ (y : Output). y.value) same ∙ b.bound.value) in
       let sc : st.contract ≡ k = ap (λ (y : Instance). y.contract) (compiled_is s w k st compiled).is in
-      let l : look_up (x.0) (bindings_at w.advertised k) ≡ Some n = subst (λ c. look_up (x.0) (bindings_at w.advertised c) ≡ Some b.number) sc b.looked ∙ ap Some (sym m) in
+      let l : look_up (x.0) (bindings_at w.advertised k) ≡ Some n =
+      subst (λ c. look_up (x.0) (bindings_at w.advertised c) ≡ Some b.number) sc b.looked ∙ ap Some (sym m) in
       record {
         numbers = ap (λ q. and_then q (numbers_of bindings (names_of es))) l ∙ ap (λ q. n ∷ q) ih.numbers;
         live = and_from _ _ d ih.live;

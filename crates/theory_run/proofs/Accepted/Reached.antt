@@ -76,7 +76,8 @@ module _ (s : Setup) (size : HashesBytes s.hash) (few_contracts : length s.contr
     (kept : KeptBook s g w) (fit : TransactionsFit s w) (check : Checked s w)
     (inits : (k : ℕ) (x : List ℕ) → is_init_authorised g.init_authorised k x ≡ true → is_init_authorised g'.init_authorised k x ≡ true)
     (asked : (n i : ℕ) (a : List ℕ) → has_branch_authorised g.branch_authorised n i a ≡ true → has_branch_authorised g'.branch_authorised n i a ≡ true)
-    (tx : Tx) (fits : IsNumbered tx) (spent : List ℕ) (is : IsAccepted s w tx spent) (clear : NoCollision s.hash w.hashed) (apart : collision s.hash w.hashed (strings_of s w tx ++ items_of tx) ≡ None) where
+    (tx : Tx) (fits : IsNumbered tx) (spent : List ℕ) (is : IsAccepted s w tx spent)
+    (clear : NoCollision s.hash w.hashed) (apart : collision s.hash w.hashed (strings_of s w tx ++ items_of tx) ≡ None) where
   pub reached_kept : KeptBook s g' (applied w (accepted s w tx spent))
   reached_kept = joined_kept s size few_contracts g g' w kept fit check inits asked tx fits spent is w.hashed (w.posted ++ items_of tx)
       clear apart (λ t h. all_more w.hashed (strings_of s w tx ++ items_of tx) t h)

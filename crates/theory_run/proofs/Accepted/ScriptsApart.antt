@@ -49,20 +49,30 @@ module _ (s : Setup) (size : HashesBytes s.hash) (few_contracts : length s.contr
       let valid = only key in
       let items : List (List ℕ) = [] ∷ [] in
       let len : length key ≡ 33 = (let l = size.size (label_text (labels.Deposit a)) in omega (arith, l)) in
-      let runs : script_meaning s.hash valid (party_script s.hash a) items ≡ true = deposit_meaning s.hash valid key items len refl ∙ and_from _ _ (bytes_refl key) refl in
+      let runs : script_meaning s.hash valid (party_script s.hash a) items ≡ true =
+      deposit_meaning s.hash valid key items len refl ∙ and_from _ _ (bytes_refl key) refl in
       let stands = position_stands s.hash st q here choice stand in
-      let opens : script_meaning s.hash valid (position_script s.hash st q choice) items ≡ true = ap (λ y. script_meaning s.hash valid y items) (sym stands.script ∙ same) ∙ runs in
-      let comp : IsCompiled st q choice = record { checked = check.checked k st compiled; committed = check.committed k st compiled; is_position = stands.branches } in
+      let opens : script_meaning s.hash valid (position_script s.hash st q choice) items ≡ true =
+      ap (λ y. script_meaning s.hash valid y items) (sym stands.script ∙ same) ∙ runs in
+      let comp : IsCompiled st q choice = record {
+        checked = check.checked k st compiled;
+        committed = check.committed k st compiled;
+        is_position = stands.branches;
+      } in
       let op = (opens_exactly s.hash st q valid choice items size.size comp refl).true_opens opens in
       let c = compiled_is s w k st compiled in
       let number : st.contract ≡ k = ap (λ (y : Instance). y.contract) c.is in
       let adv = kept.adverts k c.advertised in
-      let part : is_among adv.fair.0 (people st) ≡ true = subst (λ p. is_among adv.fair.0 p ≡ true) (ap people_of c.there ∙ ap (λ (y : Instance). people y) (sym c.is)) adv.fair.1 in
+      let part : is_among adv.fair.0 (people st) ≡ true =
+      subst (λ p. is_among adv.fair.0 p ≡ true) (ap people_of c.there ∙ ap (λ (y : Instance). people y) (sym c.is)) adv.fair.1 in
       let branch_key = key_of s.hash (branch_label st.contract (branch_path q op.i) adv.fair.0) in
-      let r = each_valid valid op.signatures (branch_keys s.hash st (branch_path q op.i)) branch_key op.signed (among_map (λ party. key_of s.hash (branch_label st.contract (branch_path q op.i) party)) adv.fair.0 (people st) part) in
-      let one : key_of s.hash (branch_label k (q ++ To op.i ∷ []) adv.fair.0) ≡ key = subst (λ m. key_of s.hash (branch_label m (q ++ To op.i ∷ []) adv.fair.0) ≡ key) number (bytes-true branch_key key r.1) in
+      let r = each_valid valid op.signatures (branch_keys s.hash st (branch_path q op.i)) branch_key op.signed
+      (among_map (λ party. key_of s.hash (branch_label st.contract (branch_path q op.i) party)) adv.fair.0 (people st) part) in
+      let one : key_of s.hash (branch_label k (q ++ To op.i ∷ []) adv.fair.0) ≡ key =
+      subst (λ m. key_of s.hash (branch_label m (q ++ To op.i ∷ []) adv.fair.0) ≡ key) number (bytes-true branch_key key r.1) in
       let l = same_label s size few_contracts g w kept check w.hashed clear (λ t h. h) (branch_label k (q ++ To op.i ∷ []) adv.fair.0) (labels.Deposit a)
-      (heard_label s size few_contracts g w kept check w.hashed clear (λ t h. h) k st q here choice op.i op.b adv.fair.0 compiled stand op.is_branch part) (deposit_label s size few_contracts g w kept check w.hashed clear (λ t h. h) a declared) one in
+      (heard_label s size few_contracts g w kept check w.hashed clear (λ t h. h) k st q here choice op.i op.b adv.fair.0 compiled stand op.is_branch part)
+      (deposit_label s size few_contracts g w kept check w.hashed clear (λ t h. h) a declared) one in
       cc
 
   -- what pays to the root pays to no party
@@ -70,7 +80,8 @@ module _ (s : Setup) (size : HashesBytes s.hash) (few_contracts : length s.contr
   root_unpaid a declared e =
       let h : s.hash (party_script s.hash a) ≡ s.hash (root_standing s.hash st).output.script = cc in
       let root : position_at s.hash st [] ≡ Some (root_standing s.hash st, st.advert.root) = refl in
-      let same = clear.one (party_script s.hash a) (root_standing s.hash st).output.script (kept.programs a declared) (script_heard s.hash st w.hashed (kept.heard k st compiled) [] (root_standing s.hash st) st.advert.root root) h in
+      let same = clear.one (party_script s.hash a) (root_standing s.hash st).output.script (kept.programs a declared)
+      (script_heard s.hash st w.hashed (kept.heard k st compiled) [] (root_standing s.hash st) st.advert.root root) h in
       no_deposit_script [] (root_standing s.hash st) st.advert.root root a declared (sym same)
 
   -- a gift to parties isn't the contract's initial transaction

@@ -100,7 +100,9 @@ module _ (hash : List ℕ → List ℕ) (hs : List (List ℕ)) (d : Unsigned) (h
   unsigned_preimage x i = let m = preimage hash (tx_of d) (input_of x) x.script x.value in inner x m i (among_head m (hash m ∷ []))
 
   pub unsigned_preimage_hash : (x : Spent) → Is_in x d.spends → is_among (hash (preimage hash (tx_of d) (input_of x) x.script x.value)) hs ≡ true
-  unsigned_preimage_hash x i = let m = preimage hash (tx_of d) (input_of x) x.script x.value in inner x (hash m) i (among_tail (hash m) m (hash m ∷ []) (among_head (hash m) []))
+  unsigned_preimage_hash x i =
+      let m = preimage hash (tx_of d) (input_of x) x.script x.value in
+      inner x (hash m) i (among_tail (hash m) m (hash m ∷ []) (among_head (hash m) []))
 
   pub unsigned_bytes : is_among (stripped (tx_of d)) hs ≡ true
   unsigned_bytes = h.heard (stripped (tx_of d))
@@ -113,7 +115,8 @@ module _ (hash : List ℕ → List ℕ) (hs : List (List ℕ)) (d : Unsigned) (h
       (shared_strings hash (tx_of d) ++ flat_map (spent_strings hash (tx_of d)) d.spends)
       (among_tail (hash (stripped (tx_of d))) (stripped (tx_of d)) (hash (stripped (tx_of d)) ∷ []) (among_head (hash (stripped (tx_of d))) [])))
 
-module _ (hash : List ℕ → List ℕ) (st : Instance) (hs : List (List ℕ)) (heard : (t : List ℕ) → is_among t (compiled_strings hash st) ≡ true → is_among t hs ≡ true) where
+module _ (hash : List ℕ → List ℕ) (st : Instance)
+    (hs : List (List ℕ)) (heard : (t : List ℕ) → is_among t (compiled_strings hash st) ≡ true → is_among t hs ≡ true) where
   abbrev all_labels : List (List ℕ)
   all_labels = flat_map (λ p. path_labels st p.0) (path_transactions hash st)
 
@@ -131,7 +134,8 @@ module _ (hash : List ℕ → List ℕ) (st : Instance) (hs : List (List ℕ)) (
         (among_left t (unsigned_strings hash (initial_unsigned hash st)) all_unsigned i)));
   }
 
-  module _ (q : List PathStep) (here : Standing) (choice : Contract) (i : ℕ) (b : term.Guarded) (stands : position_at hash st q ≡ Some (here, choice)) (there : slice_get (branches choice) i ≡ Some b) where
+  module _ (q : List PathStep) (here : Standing) (choice : Contract)
+      (i : ℕ) (b : term.Guarded) (stands : position_at hash st q ≡ Some (here, choice)) (there : slice_get (branches choice) i ≡ Some b) where
     listed : Is_in (branch_path here.position i, branch_unsigned hash st here i b) (path_transactions hash st)
     listed = covered hash st (q ++ To i ∷ []) (by_path.at_branch here i b) (stand_of_branch hash st q here choice i b stands there) _
         (branch_here hash st here i (lock b) b)
@@ -149,7 +153,9 @@ module _ (hash : List ℕ → List ℕ) (st : Instance) (hs : List (List ℕ)) (
     label_heard a k =
         let e : branch_path here.position i ≡ q ++ To i ∷ [] = ap (λ p. p ++ To i ∷ []) (position_named hash st q here choice stands) in
         let t = label_text (branch_label st.contract (q ++ To i ∷ []) a) in
-        let l : is_among t (path_labels st (branch_path here.position i)) ≡ true = subst (λ p. is_among t (path_labels st p) ≡ true) (sym e) (mapped (λ party. label_text (branch_label st.contract (q ++ To i ∷ []) party)) a (people st) k) in
+        let l : is_among t (path_labels st (branch_path here.position i)) ≡ true =
+        subst (λ p. is_among t (path_labels st p) ≡ true)
+        (sym e) (mapped (λ party. label_text (branch_label st.contract (q ++ To i ∷ []) party)) a (people st) k) in
         heard t (among_left t all_labels (all_scripts ++ (unsigned_strings hash (initial_unsigned hash st) ++ all_unsigned))
         (transactions_labels hash st (path_transactions hash st) _ t listed l))
       where
@@ -217,8 +223,10 @@ module _ (s : Setup) (size : HashesBytes s.hash) (g : Configuration) (w : World)
       → Is_in x d.spends → IsPlace i.prev → HeardDigest s hs tx i script v
       → digest s.hash tx i script v ≡ digest_of_spent s.hash (tx_of d) x → bare tx ≡ bare (tx_of d)
   same_digest d x i script v df dh xi pi h e =
-      let m = double-apart s.hash hs clear (preimage s.hash tx i script v) (preimage s.hash (tx_of d) (input_of x) x.script x.value) h.first h.second (unsigned_preimage s.hash hs d dh x xi) (unsigned_preimage_hash s.hash hs d dh x xi) e in
-      let q = preimage-apart s.hash size hs clear tx (tx_of d) fits df lists (unsigned_lists s.hash hs d dh) i (input_of x) pi (input_place d.spends x df.places xi) script x.script v x.value m in
+      let m = double-apart s.hash hs clear (preimage s.hash tx i script v) (preimage s.hash (tx_of d) (input_of x) x.script x.value)
+      h.first h.second (unsigned_preimage s.hash hs d dh x xi) (unsigned_preimage_hash s.hash hs d dh x xi) e in
+      let q = preimage-apart s.hash size hs clear tx (tx_of d) fits df lists
+      (unsigned_lists s.hash hs d dh) i (input_of x) pi (input_place d.spends x df.places xi) script x.script v x.value m in
       signed-bare tx (tx_of d) q scripts_none (unsigned_no_scripts d.spends)
 
   heard_at : (k : ℕ) (st : Instance) → compiled_instance s w k ≡ Some st → (t : List ℕ) → is_among t (compiled_strings s.hash st) ≡ true → is_among t hs ≡ true
@@ -249,8 +257,16 @@ module _ (s : Setup) (size : HashesBytes s.hash) (g : Configuration) (w : World)
   pub same_gift : (a d : List ℕ) (i : TxIn) (script : List ℕ) (v : ℕ) → IsPlace i.prev → HeardDigest s hs tx i script v → (h : Gave s w a d)
       → digest s.hash tx i script v ≡ d → SameSigned tx h.tx
   same_gift a d i script v pi k h e =
-      let m = double-apart s.hash hs clear (preimage s.hash tx i script v) (preimage s.hash h.tx h.input (party_script s.hash a) h.value) k.first k.second (sub _ h.heard.first) (sub _ h.heard.second) (e ∙ h.is) in
-      let l : HeardLists s.hash hs h.tx = record { places = sub _ h.lists.places; places_hash = sub _ h.lists.places_hash; sequences = sub _ h.lists.sequences; sequences_hash = sub _ h.lists.sequences_hash; outputs = sub _ h.lists.outputs; outputs_hash = sub _ h.lists.outputs_hash } in
+      let m = double-apart s.hash hs clear (preimage s.hash tx i script v)
+      (preimage s.hash h.tx h.input (party_script s.hash a) h.value) k.first k.second (sub _ h.heard.first) (sub _ h.heard.second) (e ∙ h.is) in
+      let l : HeardLists s.hash hs h.tx = record {
+        places = sub _ h.lists.places;
+        places_hash = sub _ h.lists.places_hash;
+        sequences = sub _ h.lists.sequences;
+        sequences_hash = sub _ h.lists.sequences_hash;
+        outputs = sub _ h.lists.outputs;
+        outputs_hash = sub _ h.lists.outputs_hash;
+      } in
       preimage-apart s.hash size hs clear tx h.tx fits h.fits lists l i h.input pi h.prev script (party_script s.hash a) v h.value m
 
   -- one with the digest of a put is its branch's, and one with that of a start is the initial transaction
@@ -329,23 +345,35 @@ module _ (s : Setup) (size : HashesBytes s.hash) (g : Configuration) (w : World)
       let here = hf.here in
       let u : pay_to (s.hash (script_of i.witness)) ≡ pay_to (s.hash here.output.script) = sym sp.pays ∙ hf.script in
       let v : s.hash (script_of i.witness) ≡ s.hash here.output.script = cc in
-      let x : script_of i.witness ≡ here.output.script = clear.one (script_of i.witness) here.output.script hi (script_heard s.hash st hs (heard_at h.contract st hf.compiled) h.position here hf.choice hf.stands) v in
+      let x : script_of i.witness ≡ here.output.script =
+      clear.one (script_of i.witness) here.output.script hi
+      (script_heard s.hash st hs (heard_at h.contract st hf.compiled) h.position here hf.choice hf.stands) v in
       let valid = is_valid w.book (digest s.hash tx i here.output.script sp.output.value) in
       let stands = position_stands s.hash st h.position here hf.choice hf.stands in
       let runs : script_meaning s.hash valid (position_script s.hash st h.position hf.choice) (items_of i.witness) ≡ true =
       subst (λ y. script_meaning s.hash valid y (items_of i.witness) ≡ true) stands.script
       (subst (λ y. script_meaning s.hash (is_valid w.book (digest s.hash tx i y sp.output.value)) y (items_of i.witness) ≡ true) x sp.runs) in
-      let comp : IsCompiled st h.position hf.choice = record { checked = check.checked h.contract st hf.compiled; committed = check.committed h.contract st hf.compiled; is_position = stands.branches } in
+      let comp : IsCompiled st h.position hf.choice = record {
+        checked = check.checked h.contract st hf.compiled;
+        committed = check.committed h.contract st hf.compiled;
+        is_position = stands.branches;
+      } in
       let op = (opens_exactly s.hash st h.position valid hf.choice (items_of i.witness) size.size comp sp.short).true_opens runs in
       let c = compiled_is s w h.contract st hf.compiled in
       let ck : st.contract ≡ h.contract = ap (λ (y : Instance). y.contract) c.is in
-      let sg : (a : List ℕ) → is_among a (people st) ≡ true → has_signed w.book (key_of s.hash (branch_label h.contract (h.position ++ To op.i ∷ []) a)) (digest s.hash tx i here.output.script sp.output.value) ≡ true = λ a k.
+      let sg : (a : List ℕ) → is_among a (people st) ≡ true → has_signed w.book
+      (key_of s.hash (branch_label h.contract (h.position ++ To op.i ∷ []) a)) (digest s.hash tx i here.output.script sp.output.value) ≡ true =
+      λ a k.
       let ky = key_of s.hash (branch_label st.contract (h.position ++ To op.i ∷ []) a) in
-      let r = each_valid valid op.signatures (branch_keys s.hash st (branch_path h.position op.i)) ky op.signed (mapped_key (λ party. key_of s.hash (branch_label st.contract (branch_path h.position op.i) party)) a (people st) k) in
-      subst (λ m. has_signed w.book (key_of s.hash (branch_label m (h.position ++ To op.i ∷ []) a)) (digest s.hash tx i here.output.script sp.output.value) ≡ true) ck (valid_signed w.book (digest s.hash tx i here.output.script sp.output.value) r.0 ky r.1) in
+      let r = each_valid valid op.signatures (branch_keys s.hash st (branch_path h.position op.i)) ky op.signed
+      (mapped_key (λ party. key_of s.hash (branch_label st.contract (branch_path h.position op.i) party)) a (people st) k) in
+      subst (λ m. has_signed w.book (key_of s.hash (branch_label m (h.position ++ To op.i ∷ []) a)) (digest s.hash tx i
+      here.output.script sp.output.value) ≡ true) ck (valid_signed w.book (digest s.hash tx i here.output.script sp.output.value) r.0 ky r.1) in
       let adv = kept.adverts h.contract c.advertised in
-      let fair : is_among adv.fair.0 (people st) ≡ true = subst (λ p. is_among adv.fair.0 p ≡ true) (ap people_of c.there ∙ ap (λ (y : Instance). people y) (sym c.is)) adv.fair.1 in
-      let bc = kept.branch_pairs h.contract st h.position here hf.choice op.i op.b adv.fair.0 (digest s.hash tx i here.output.script sp.output.value) hf.compiled hf.stands op.is_branch fair adv.fair.2 (sg adv.fair.0 fair) in
+      let fair : is_among adv.fair.0 (people st) ≡ true =
+      subst (λ p. is_among adv.fair.0 p ≡ true) (ap people_of c.there ∙ ap (λ (y : Instance). people y) (sym c.is)) adv.fair.1 in
+      let bc = kept.branch_pairs h.contract st h.position here hf.choice op.i op.b adv.fair.0
+      (digest s.hash tx i here.output.script sp.output.value) hf.compiled hf.stands op.is_branch fair adv.fair.2 (sg adv.fair.0 fair) in
       let dh = branch_heard s.hash st hs (heard_at h.contract st hf.compiled) h.position here hf.choice op.i op.b hf.stands op.is_branch in
       let hd' : HeardDigest s hs tx i here.output.script sp.output.value = subst (λ y. HeardDigest s hs tx i y sp.output.value) x hd in
       record {

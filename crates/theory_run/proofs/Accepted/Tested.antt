@@ -80,7 +80,10 @@ secret_named : (pre : List Pre) (n : List ℕ) → is_among n (names_of (secrets
 secret_named [] n h = h
 secret_named (Persistent party value name ∷ pre) n h = or_right (bytes_eq name n) _ (secret_named pre n h)
 secret_named (Volatile party value name ∷ pre) n h = or_right (bytes_eq name n) _ (secret_named pre n h)
-secret_named (Secret party name ∷ pre) n h = elim (or_cases (bytes_eq name n) (is_among n (names_of (secrets pre))) h) [ inl a ↦ or_left _ _ a | inr b ↦ or_right (bytes_eq name n) _ (secret_named pre n b) ]
+secret_named (Secret party name ∷ pre) n h = elim (or_cases (bytes_eq name n) (is_among n (names_of (secrets pre))) h) [
+  | inl a ↦ or_left _ _ a
+  | inr b ↦ or_right (bytes_eq name n) _ (secret_named pre n b)
+]
 
 pub secrets_different : (pre : List Pre) → are_different (map name_in pre) ≡ true → are_different (names_of (secrets pre)) ≡ true
 secrets_different [] h = refl
@@ -205,9 +208,12 @@ module _ (s : Setup) (z : List (List ℕ)) (c : Configuration) (w : World) (kept
   known x h =
       let l = named_looked (secrets ad.pre) x h in
       let i = looked_in (secrets ad.pre) x l.0 l.1 in
-      let part : is_among l.0 (participants ad) ≡ true = added (map party_of ad.pre ++ choice_mentions ad.root) [] l.0 (among_left l.0 (map party_of ad.pre) (choice_mentions ad.root) (secret_party ad.pre (x, l.0) i)) in
+      let part : is_among l.0 (participants ad) ≡ true =
+      added (map party_of ad.pre ++ choice_mentions ad.root) [] l.0
+      (among_left l.0 (map party_of ad.pre) (choice_mentions ad.root) (secret_party ad.pre (x, l.0) i)) in
       let has : has_promised w k l.0 ≡ true = all_among (has_promised w k) (participants ad) l.0 promised part in
-      let own : is_among x (secrets_at s k l.0) ≡ true = subst (λ pre. is_among x (secrets_of l.0 pre) ≡ true) (sym pre_is) (secret_among (secrets ad.pre) x l.0 i) in
+      let own : is_among x (secrets_at s k l.0) ≡ true =
+      subst (λ pre. is_among x (secrets_of l.0 pre) ≡ true) (sym pre_is) (secret_among (secrets ad.pre) x l.0 i) in
       by_digest l.0 l.1 (digest_at w.promises (record { contract = k; party = l.0; secret = x })) refl
       (kept.full (record { contract = k; party = l.0; secret = x }) has own)
     where
@@ -235,7 +241,8 @@ module _ (s : Setup) (z : List (List ℕ)) (c : Configuration) (w : World) (kept
       → is_revealed_by c.revealed k (look_up x (secrets ad.pre)) x ≡ true
   one_revealed x t n f h =
       let r : Revealed = record { contract = k; party = n.party; secret = x } in
-      let sh : is_shown s w.posted (digest_at w.promises r) ≡ true = ap (is_shown s w.posted) n.committed ∙ find_any (fits s n.digest) w.posted (any_of (fits s n.digest) t w.posted f h) in
+      let sh : is_shown s w.posted (digest_at w.promises r) ≡ true =
+      ap (is_shown s w.posted) n.committed ∙ find_any (fits s n.digest) w.posted (any_of (fits s n.digest) t w.posted f h) in
       ap (λ o. is_revealed_by c.revealed k o x) n.looked ∙ kept.revealed r ∙ sh
 
   one_known : (x t : List ℕ) (n : Known x) → fits s n.digest t ≡ true → is_among t w.posted ≡ true → secret_length c.committed k ad.pre x ≡ length t - 16
@@ -276,7 +283,10 @@ among_reversed t (x ∷ xs) h = elim (among_split t (reverse xs) (x ∷ []) (ap 
 among_items : (t : List ℕ) (xs : List (List ℕ)) → is_among t (items_of xs) ≡ true → is_among t xs ≡ true
 among_items t [] h = h
 among_items t (x ∷ []) h = cc
-among_items t (x ∷ (y ∷ ys)) h = elim (or_cases (bytes_eq x t) (is_among t (items_of (y ∷ ys))) h) [ inl a ↦ or_left _ _ a | inr b ↦ or_right (bytes_eq x t) _ (among_items t (y ∷ ys) b) ]
+among_items t (x ∷ (y ∷ ys)) h = elim (or_cases (bytes_eq x t) (is_among t (items_of (y ∷ ys))) h) [
+  | inl a ↦ or_left _ _ a
+  | inr b ↦ or_right (bytes_eq x t) _ (among_items t (y ∷ ys) b)
+]
 
 -- what stands on a witness's stack is among its items
 pub among_stack : (t : List ℕ) (xs : List (List ℕ)) → is_among t (reverse (items_of xs)) ≡ true → is_among t xs ≡ true

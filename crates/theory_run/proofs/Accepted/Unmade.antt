@@ -78,7 +78,8 @@ module _ (s : Setup) (size : HashesBytes s.hash) (few_contracts : length s.contr
     → is_among t next.hashed ≡ true)
     (stays : (j : ℕ) (su : Instance) → compiled_instance s w j ≡ Some su → compiled_instance s next j ≡ Some su)
     (k : ℕ) (st : Instance) (now : compiled_instance s next k ≡ Some st) (before : (su : Instance) → compiled_instance s w k ≡ Some su → ⊥)
-    (lies : (d : List ℕ × Holding) → Is_in d (persistent st.advert.pre) → Lies s w st d) (a : List ℕ) (part : is_among a (people st) ≡ true) (honest : is_honest s a ≡ true) where
+    (lies : (d : List ℕ × Holding) → Is_in d (persistent st.advert.pre) → Lies s w st d)
+    (a : List ℕ) (part : is_among a (people st) ≡ true) (honest : is_honest s a ≡ true) where
   -- an output of a transaction of this one's id was made by an accepted one that is the same but for witnesses
   by_id : (d : Unsigned) (x : Spent) → Is_in x d.spends → IsNumbered (tx_of d) → HeardUnsigned s.hash next.hashed d → (n : ℕ) (o : Output)
       → slice_get w.outputs n ≡ Some o → o.outpoint.txid ≡ txid s.hash (tx_of d) → ((id : List ℕ) (f : From s w id) → bare f.tx ≡ bare (tx_of d) → ⊥) → ⊥
@@ -87,10 +88,12 @@ module _ (s : Setup) (size : HashesBytes s.hash) (few_contracts : length s.contr
       by_origin : (o.outpoint.txid ≡ opening_id s) ⊎ From s w o.outpoint.txid → ⊥
       by_origin (inl f) =
           let op = opening_transaction (opening_outputs s) in
-          let m = double-apart s.hash next.hashed clear (stripped op) (stripped (tx_of d)) (sub _ kept.opened.0) (sub _ kept.opened.1) (unsigned_bytes s.hash next.hashed d hd) (unsigned_bytes_hash s.hash next.hashed d hd) (sym f ∙ e) in
+          let m = double-apart s.hash next.hashed clear (stripped op) (stripped (tx_of d)) (sub _ kept.opened.0)
+          (sub _ kept.opened.1) (unsigned_bytes s.hash next.hashed d hd) (unsigned_bytes_hash s.hash next.hashed d hd) (sym f ∙ e) in
           inputless_apart op (tx_of d) refl (in_some (input_of x) (tx_of d).inputs (in_images input_of d.spends x i)) m
       by_origin (inr f) =
-          let m = double-apart s.hash next.hashed clear (stripped f.tx) (stripped (tx_of d)) (sub _ f.first) (sub _ f.second) (unsigned_bytes s.hash next.hashed d hd) (unsigned_bytes_hash s.hash next.hashed d hd) (sym f.is ∙ e) in
+          let m = double-apart s.hash next.hashed clear (stripped f.tx) (stripped (tx_of d)) (sub _ f.first)
+          (sub _ f.second) (unsigned_bytes s.hash next.hashed d hd) (unsigned_bytes_hash s.hash next.hashed d hd) (sym f.is ∙ e) in
           go o.outpoint.txid f (stripped-apart f.tx (tx_of d) f.no_scripts (unsigned_no_scripts d.spends) f.fits fd m)
 
   -- ---- the root
@@ -154,24 +157,36 @@ module _ (s : Setup) (size : HashesBytes s.hash) (few_contracts : length s.contr
       digest_heard = let h = so.heard a declared script in record { first = sub _ h.first; second = sub _ h.second }
 
       lists : HeardLists s.hash next.hashed f.tx
-      lists = let h = f.lists in record { places = sub _ h.places; places_hash = sub _ h.places_hash; sequences = sub _ h.sequences; sequences_hash = sub _ h.sequences_hash; outputs = sub _ h.outputs; outputs_hash = sub _ h.outputs_hash }
+      lists =
+          let h = f.lists in
+          record {
+            places = sub _ h.places;
+            places_hash = sub _ h.places_hash;
+            sequences = sub _ h.sequences;
+            sequences_hash = sub _ h.sequences_hash;
+            outputs = sub _ h.outputs;
+            outputs_hash = sub _ h.outputs_hash;
+          }
 
       by_cause : Cause s size g w kept fit check next.hashed clear sub f.tx f.fits f.no_scripts lists a → ⊥
       by_cause (gift_cause d h q) =
           not_final (persistent_deposits s.hash st) f.tx.inputs h.tx.inputs (ap (λ (y : Tx). y.inputs) same) q.sequences h.final sp.input sp.among
       -- a put spends what holds a position first, a bound deposit holds none
       by_cause (put_cause p) =
-          let r = bare_in (map input_of (branch_unsigned s.hash p.instance p.here p.index p.branch).spends) (map input_of (persistent_deposits s.hash st)) (input_of p.here.output) (ap (λ (y : Tx). y.inputs) (sym p.is ∙ same)) (inl refl) in
+          let r = bare_in (map input_of (branch_unsigned s.hash p.instance p.here p.index p.branch).spends)
+          (map input_of (persistent_deposits s.hash st)) (input_of p.here.output) (ap (λ (y : Tx). y.inputs) (sym p.is ∙ same)) (inl refl) in
           let x = in_map input_of (persistent_deposits s.hash st) r.0 r.1 in
           let y = in_map (λ (e : List ℕ × Holding). deposit s.hash st (e.0) (e.1)) (persistent st.advert.pre) x.0 x.1 in
           let l = lies y.0 y.1 in
-          let at : l.output.outpoint ≡ p.here.output.outpoint = sym l.outpoint ∙ ap (λ (t : Spent). t.outpoint) (sym y.2) ∙ ap (λ (t : TxIn). t.prev) (sym x.2) ∙ r.2 in
+          let at : l.output.outpoint ≡ p.here.output.outpoint =
+          sym l.outpoint ∙ ap (λ (t : Spent). t.outpoint) (sym y.2) ∙ ap (λ (t : TxIn). t.prev) (sym x.2) ∙ r.2 in
           let h = kept.placed p.contract p.instance p.position p.here p.choice l.number l.output p.compiled p.stands l.there at in
           let no_one = l.free in
           cc
       -- another contract's initial transaction is another one
       by_cause (start_cause t) =
-          let e = one_initial s size few_contracts next next_check next.hashed clear heard k t.contract st t.instance now (stays t.contract t.instance t.compiled) (sym same ∙ t.is) in
+          let e = one_initial s size few_contracts next next_check next.hashed clear heard k t.contract st t.instance now
+          (stays t.contract t.instance t.compiled) (sym same ∙ t.is) in
           before t.instance (subst (λ j. compiled_instance s w j ≡ Some t.instance) (sym e) t.compiled)
 
   -- ---- all positions

@@ -71,7 +71,9 @@ initial_none s w tx j zero (d ∷ cs) c e h = let z : 0 + j ≡ j = omega arith 
     by_test : (b : Bool) → (if b then Some j else initial_from s w tx (j + 1) cs) ≡ None → b ≡ false
     by_test true q = cc
     by_test false q = refl
-initial_none s w tx j (suc m) (d ∷ cs) c e h = let z : suc m + j ≡ m + (j + 1) = omega arith in rw z (initial_none s w tx (j + 1) m cs c e (by_test (is_initial s tx (compiled_instance s w j)) h))
+initial_none s w tx j (suc m) (d ∷ cs) c e h =
+    let z : suc m + j ≡ m + (j + 1) = omega arith in
+    rw z (initial_none s w tx (j + 1) m cs c e (by_test (is_initial s tx (compiled_instance s w j)) h))
   where
     by_test : (b : Bool) → (if b then Some j else initial_from s w tx (j + 1) cs) ≡ None → initial_from s w tx (j + 1) cs ≡ None
     by_test true q = cc
@@ -177,7 +179,8 @@ module _ (s : Setup) (size : HashesBytes s.hash) (g : Configuration) (w : World)
   pub unsigned_first : (d : Unsigned) (x : Spent) (xs : List Spent) → d.spends ≡ x ∷ xs → bare tx ≡ bare (tx_of d) → first.spends.output.outpoint ≡ x.outpoint
   unsigned_first d x xs e b =
       let i : map bare_input tx.inputs ≡ map bare_input (map input_of d.spends) = ap (λ (y : Tx). y.inputs) b in
-      let j : map bare_input (first.input ∷ first.inputs) ≡ map bare_input (map input_of (x ∷ xs)) = ap (map bare_input) (sym first.inputs_is) ∙ i ∙ ap (λ ys. map bare_input (map input_of ys)) e in
+      let j : map bare_input (first.input ∷ first.inputs) ≡ map bare_input (map input_of (x ∷ xs)) =
+      ap (map bare_input) (sym first.inputs_is) ∙ i ∙ ap (λ ys. map bare_input (map input_of ys)) e in
       sym first.spends.outpoint ∙ first_place first.input first.inputs x xs j
 
   -- an initial transaction spends what holds nothing
@@ -188,8 +191,10 @@ module _ (s : Setup) (size : HashesBytes s.hash) (g : Configuration) (w : World)
       let j = ap (map bare_input) (sym first.inputs_is) ∙ i in
       let d = first_persistent s.hash st (persistent st.advert.pre) first.input first.inputs j in
       let a = at_bound s g w kept k st c (d.0.0) (d.0.1) (persistent_deposit st.advert.pre d.0 d.1) in
-      let m = kept.apart first.number a.number first.spends.output a.bound.output first.spends.there a.bound.there (sym first.spends.outpoint ∙ d.2 ∙ a.outpoint) in
-      let e : (let o : Option Output = Some first.spends.output in o) ≡ Some a.bound.output = sym first.spends.there ∙ ap (slice_get w.outputs) m ∙ a.bound.there in
+      let m = kept.apart first.number a.number first.spends.output a.bound.output first.spends.there a.bound.there
+      (sym first.spends.outpoint ∙ d.2 ∙ a.outpoint) in
+      let e : (let o : Option Output = Some first.spends.output in o) ≡ Some a.bound.output =
+      sym first.spends.there ∙ ap (slice_get w.outputs) m ∙ a.bound.there in
       let f : first.spends.output ≡ a.bound.output = cc in
       ap (λ (y : Output). y.holds) f ∙ a.bound.free
 
@@ -225,11 +230,13 @@ module _ (s : Setup) (size : HashesBytes s.hash) (g : Configuration) (w : World)
     where
       by_made : MadeBy s.hash st q here choice → Making k st q here choice m
       by_made (by_initial a b) =
-          let i : txid s.hash tx ≡ txid s.hash (tx_of (initial_unsigned s.hash st)) = ap (λ (y : OutPoint). y.txid) p ∙ ap (λ (y : Standing). y.output.outpoint.txid) b in
+          let i : txid s.hash tx ≡ txid s.hash (tx_of (initial_unsigned s.hash st)) =
+          ap (λ (y : OutPoint). y.txid) p ∙ ap (λ (y : Standing). y.output.outpoint.txid) b in
           initial_making a b (id_bare (initial_unsigned s.hash st) (fit.initial k st c) (initial_heard s.hash st hs (heard_of k st c)) i)
       by_made (by_branch bb) =
           let ib = bb.is_branch in
-          let i : txid s.hash tx ≡ txid s.hash (tx_of (branch_unsigned s.hash st bb.from_here bb.index bb.branch)) = ap (λ (y : OutPoint). y.txid) (p ∙ bb.outpoint) in
+          let i : txid s.hash tx ≡ txid s.hash (tx_of (branch_unsigned s.hash st bb.from_here bb.index bb.branch)) =
+          ap (λ (y : OutPoint). y.txid) (p ∙ bb.outpoint) in
           branch_making bb (id_bare (branch_unsigned s.hash st bb.from_here bb.index bb.branch)
           (fit.branch k st ib.position bb.from_here ib.choice bb.index bb.branch c ib.stands ib.there)
           (branch_heard s.hash st hs (heard_of k st c) ib.position bb.from_here ib.choice bb.index bb.branch ib.stands ib.there) i)
@@ -244,7 +251,9 @@ module _ (s : Setup) (size : HashesBytes s.hash) (g : Configuration) (w : World)
     where
       by_making : Making k st q here choice m → ⊥
       by_making (initial_making a b h) = not_initial s w tx k st i c h
-      by_making (branch_making bb h n) = let x = branch_first k st bb.is_branch.position bb.from_here bb.is_branch.choice bb.index bb.branch c bb.is_branch.stands h in let y = sym f ∙ first_holds ∙ x in cc
+      by_making (branch_making bb h n) =
+          let x = branch_first k st bb.is_branch.position bb.from_here bb.is_branch.choice bb.index bb.branch c bb.is_branch.stands h in
+          let y = sym f ∙ first_holds ∙ x in cc
 
   -- an input whose output holds something spends the first one's
   pub held_is_first : (i : TxIn) (n : ℕ) (sp : IsSpent s w tx n i) (h : ContractPosition) → Is_in i tx.inputs → sp.output.holds ≡ Some h
@@ -252,6 +261,7 @@ module _ (s : Setup) (size : HashesBytes s.hash) (g : Configuration) (w : World)
   held_is_first i n sp h k e =
       let hf = kept.held n sp.output h sp.there e in
       let hi = heard_input s w hs tx all i n (λ t l. all_strings_of s w tx i t k l) sp in
-      let tk = taken s size g w kept fit check hs clear sub tx fits (scripts_none s size g w kept fit check hs clear sub tx fits spent acc all) (lists s size g w kept fit check hs clear sub tx fits spent acc all) n i sp hi.script (record { first = hi.signed; second = hi.signed_hash }) h hf
+      let tk = taken s size g w kept fit check hs clear sub tx fits (scripts_none s size g w kept fit check hs clear sub tx fits spent acc all)
+      (lists s size g w kept fit check hs clear sub tx fits spent acc all) n i sp hi.script (record { first = hi.signed; second = hi.signed_hash }) h hf
       (subst IsPlace (sym sp.outpoint) (kept.placed_fine n sp.output sp.there)) in
       first_holds ∙ branch_first h.contract hf.instance h.position hf.here hf.choice tk.opened.i tk.opened.b hf.compiled hf.stands tk.is

@@ -47,7 +47,9 @@ part_of : (hash : List ℕ → List ℕ) (st : Instance) (path : List PathStep) 
     → slice_get (part_outputs hash st path k ps) m ≡ Some x
     → (p : ℕ × Contract) × (slice_get (parts_list ps) m ≡ Some p) × (x ≡ pays hash (position_script hash st (part_position path (m + k)) p.1) p.0)
 part_of hash st path k m no_part x h = cc
-part_of hash st path k zero (part v c ps) x h = let z : 0 + k ≡ k = omega arith in ((v, c), refl, rw z (let e : pays hash (position_script hash st (part_position path k) c) v ≡ x = cc in sym e))
+part_of hash st path k zero (part v c ps) x h =
+    let z : 0 + k ≡ k = omega arith in
+    ((v, c), refl, rw z (let e : pays hash (position_script hash st (part_position path k) c) v ≡ x = cc in sym e))
 part_of hash st path k (suc m) (part v c ps) x h = let z : suc m + k ≡ m + (k + 1) = omega arith in rw z (part_of hash st path (k + 1) m ps x h)
 
 module _ (s : Setup) (size : HashesBytes s.hash) (few_contracts : length s.contracts ≤ 16) (g : Configuration) (w : World)
@@ -63,7 +65,8 @@ module _ (s : Setup) (size : HashesBytes s.hash) (few_contracts : length s.contr
       ≡ pay_to (s.hash (party_script s.hash p)) → ⊥
   not_deposit k st q here c p ck eq decl e =
       let a = position_key s size few_contracts w check hs clear heard_of k st q here c ck eq in
-      let ha : is_among (position_script s.hash st q c) hs ≡ true = subst (λ x. is_among x hs ≡ true) (position_stands s.hash st q here c eq).script (script_heard s.hash st hs (heard_of k st ck) q here c eq) in
+      let ha : is_among (position_script s.hash st q c) hs ≡ true =
+      subst (λ x. is_among x hs ≡ true) (position_stands s.hash st q here c eq).script (script_heard s.hash st hs (heard_of k st ck) q here c eq) in
       let x = pays_same s.hash hs clear (position_script s.hash st q c) (party_script s.hash p) ha (sub _ (kept.programs p decl)) e in
       no_deposit s.hash size.size hs clear st q (position_script s.hash st q c) p a.0 a.1 a.2 (sub _ (kept.labelled p decl)) x
 
@@ -86,11 +89,15 @@ module _ (s : Setup) (size : HashesBytes s.hash) (few_contracts : length s.contr
           × (slice_get (parts_list ps) bb.number ≡ Some (value, choice)) × (q ≡ bb.path ++ Into bb.number ∷ []))
           → x.script ≡ pay_to (s.hash (position_script s.hash su q choice))
       by_shape (inl a) =
-          let o : tx.outputs ≡ core_outputs s.hash su (branch_path bb.from_here.position bb.index) bb.from_here.output.value (put_reveal a.0 a.1 a.2 choice) = ap (λ (y : Tx). y.outputs) i ∙ ap (core_outputs s.hash su (branch_path bb.from_here.position bb.index) bb.from_here.output.value) a.3 in
-          let r = one_of (pays s.hash (position_script s.hash su (branch_path bb.from_here.position bb.index) choice) (continued_value su bb.from_here.output.value a.0)) x m (ap (λ xs. slice_get xs m) (sym o) ∙ hx) in
+          let o : tx.outputs
+          ≡ core_outputs s.hash su (branch_path bb.from_here.position bb.index) bb.from_here.output.value (put_reveal a.0 a.1 a.2 choice) =
+          ap (λ (y : Tx). y.outputs) i ∙ ap (core_outputs s.hash su (branch_path bb.from_here.position bb.index) bb.from_here.output.value) a.3 in
+          let r = one_of (pays s.hash (position_script s.hash su (branch_path bb.from_here.position bb.index) choice)
+          (continued_value su bb.from_here.output.value a.0)) x m (ap (λ xs. slice_get xs m) (sym o) ∙ hx) in
           ap (λ (y : TxOut). y.script) (sym r.1) ∙ ap (λ y. pay_to (s.hash (position_script s.hash su y choice))) (p_is ∙ sym a.5)
       by_shape (inr a) =
-          let o : tx.outputs ≡ part_outputs s.hash su (branch_path bb.from_here.position bb.index) 0 a.0 = ap (λ (y : Tx). y.outputs) i ∙ ap (core_outputs s.hash su (branch_path bb.from_here.position bb.index) bb.from_here.output.value) a.2 in
+          let o : tx.outputs ≡ part_outputs s.hash su (branch_path bb.from_here.position bb.index) 0 a.0 =
+          ap (λ (y : Tx). y.outputs) i ∙ ap (core_outputs s.hash su (branch_path bb.from_here.position bb.index) bb.from_here.output.value) a.2 in
           let r = part_of s.hash su (branch_path bb.from_here.position bb.index) 0 m a.0 x (ap (λ xs. slice_get xs m) (sym o) ∙ hx) in
           let z : m + 0 ≡ m = omega arith in
           let xe : x ≡ pays s.hash (position_script s.hash su (part_position (branch_path bb.from_here.position bb.index) m) r.0.1) r.0.0 = rw z at r.2 in
@@ -145,7 +152,8 @@ module _ (s : Setup) (size : HashesBytes s.hash) (few_contracts : length s.contr
           } → HeldFine s next o h
       held_new m x h o hx hh ho =
           let z : record { contract = k; position = [] } ≡ h = cc in
-          let r = one_of (pays s.hash (position_script s.hash is.instance [] is.instance.advert.root) (root_value is.instance)) x m (ap (λ xs. slice_get xs m) (sym outputs_are) ∙ hx) in
+          let r = one_of (pays s.hash (position_script s.hash is.instance [] is.instance.advert.root) (root_value is.instance)) x m
+          (ap (λ xs. slice_get xs m) (sym outputs_are) ∙ hx) in
           let id = bare_id s size g w kept fit check hs clear sub tx fits spent acc all (initial_unsigned s.hash is.instance) is.is in
           subst (HeldFine s next o) z (record {
             instance = is.instance;
@@ -166,16 +174,22 @@ module _ (s : Setup) (size : HashesBytes s.hash) (few_contracts : length s.contr
           by_making : Making s size g w kept fit check hs clear sub tx fits spent acc all j su q here choice m → root_of k m
               ≡ Some (record { contract = j; position = q })
           by_making (initial_making a b h) =
-              let o : (pays s.hash (position_script s.hash su [] su.advert.root) (root_value su) ∷ []) ≡ pays s.hash (position_script s.hash is.instance [] is.instance.advert.root) (root_value is.instance) ∷ [] = sym (ap (λ (y : Tx). y.outputs) h) ∙ outputs_are in
-              let v : pays s.hash (position_script s.hash su [] su.advert.root) (root_value su) ≡ pays s.hash (position_script s.hash is.instance [] is.instance.advert.root) (root_value is.instance) = cc in
-              let same = same_position s size few_contracts w check hs clear heard_of j k su is.instance [] [] (root_standing s.hash su) (root_standing s.hash is.instance) su.advert.root is.instance.advert.root c is.compiled refl refl (ap (λ (y : TxOut). y.script) v) in
+              let o : (pays s.hash (position_script s.hash su [] su.advert.root) (root_value su) ∷ [])
+              ≡ pays s.hash (position_script s.hash is.instance [] is.instance.advert.root) (root_value is.instance) ∷ [] =
+              sym (ap (λ (y : Tx). y.outputs) h) ∙ outputs_are in
+              let v : pays s.hash (position_script s.hash su [] su.advert.root) (root_value su)
+              ≡ pays s.hash (position_script s.hash is.instance [] is.instance.advert.root) (root_value is.instance) =
+              cc in
+              let same = same_position s size few_contracts w check hs clear heard_of j k su is.instance [] [] (root_standing s.hash su)
+              (root_standing s.hash is.instance) su.advert.root is.instance.advert.root c is.compiled refl refl (ap (λ (y : TxOut). y.script) v) in
               let cj : su.contract ≡ j = ap (λ (y : Instance). y.contract) (compiled_is s w j su c).is in
               let ck : is.instance.contract ≡ k = ap (λ (y : Instance). y.contract) (compiled_is s w k is.instance is.compiled).is in
               let kj : k ≡ j = sym ck ∙ sym same.0 ∙ cj in
               let qa = sym a in
               λ i. Some (record { contract = kj i; position = qa i })
           by_making (branch_making bb h n) =
-              let u = branch_first s size g w kept fit check hs clear sub tx fits spent acc all j su bb.is_branch.position bb.from_here bb.is_branch.choice bb.index bb.branch c bb.is_branch.stands h in
+              let u = branch_first s size g w kept fit check hs clear sub
+              tx fits spent acc all j su bb.is_branch.position bb.from_here bb.is_branch.choice bb.index bb.branch c bb.is_branch.stands h in
               let v = initial_first s size g w kept fit check hs clear sub tx fits spent acc all k is.instance is.compiled is.is in
               cc
 
@@ -229,7 +243,8 @@ module _ (s : Setup) (size : HashesBytes s.hash) (few_contracts : length s.contr
         → (m : ℕ) (x : TxOut) → slice_get tx.outputs m ≡ Some x → NewHeld m x (record { contract = h.contract; position = path })
     new_put puts reveals test nx e m x hx =
         let p = branch_path t.fine.here.position t.index in
-        let r = one_of (pays s.hash (position_script s.hash st p nx) (continued_value st t.fine.here.output.value puts)) x m (ap (λ xs. slice_get xs m) (sym (outputs_are (put_reveal puts reveals test nx) e)) ∙ hx) in
+        let r = one_of (pays s.hash (position_script s.hash st p nx) (continued_value st t.fine.here.output.value puts)) x m
+        (ap (λ xs. slice_get xs m) (sym (outputs_are (put_reveal puts reveals test nx) e)) ∙ hx) in
         record {
           here = continued s.hash st p (branch_unsigned s.hash st t.fine.here t.index t.branch) (continued_value st t.fine.here.output.value puts) nx;
           choice = nx;
@@ -259,8 +274,10 @@ module _ (s : Setup) (size : HashesBytes s.hash) (few_contracts : length s.contr
 
     new_held : (c : term.Guarded) → core t.branch ≡ c → (m : ℕ) (x : TxOut) (k : ContractPosition) → slice_get tx.outputs m ≡ Some x
         → core_holds h.contract path c m ≡ Some k → NewHeld m x k
-    new_held (put_reveal puts reveals test nx) e m x k hx hk = let z : record { contract = h.contract; position = path } ≡ k = cc in subst (NewHeld m x) z (new_put puts reveals test nx e m x hx)
-    new_held (split ps) e m x k hx hk = let z : record { contract = h.contract; position = path ++ Into m ∷ [] } ≡ k = cc in subst (NewHeld m x) z (new_part ps e m x hx)
+    new_held (put_reveal puts reveals test nx) e m x k hx hk =
+        let z : record { contract = h.contract; position = path } ≡ k = cc in subst (NewHeld m x) z (new_put puts reveals test nx e m x hx)
+    new_held (split ps) e m x k hx hk =
+        let z : record { contract = h.contract; position = path ++ Into m ∷ [] } ≡ k = cc in subst (NewHeld m x) z (new_part ps e m x hx)
     new_held (withdraw p) e m x k hx hk = cc
     new_held (auth party body) e m x k hx hk = cc
     new_held (after height body) e m x k hx hk = cc
@@ -272,15 +289,18 @@ module _ (s : Setup) (size : HashesBytes s.hash) (few_contracts : length s.contr
     holds_position (put_reveal puts reveals test nx) e q here choice m x eq hx hs' =
         let n = new_put puts reveals test nx e m x hx in
         let sc = (position_stands s.hash st path n.here n.choice n.stands).script in
-        let same = same_position s size few_contracts w check hs clear heard_of h.contract h.contract st st path q n.here here n.choice choice t.fine.compiled t.fine.compiled n.stands eq (ap (λ y. pay_to (s.hash y)) (sym sc) ∙ sym n.script ∙ hs') in
+        let same = same_position s size few_contracts w check hs clear heard_of h.contract h.contract st st path
+        q n.here here n.choice choice t.fine.compiled t.fine.compiled n.stands eq (ap (λ y. pay_to (s.hash y)) (sym sc) ∙ sym n.script ∙ hs') in
         ap (λ p. Some (record { contract = h.contract; position = p })) same.1
     holds_position (split ps) e q here choice m x eq hx hs' =
         let n = new_part ps e m x hx in
         let sc = (position_stands s.hash st (path ++ Into m ∷ []) n.here n.choice n.stands).script in
-        let same = same_position s size few_contracts w check hs clear heard_of h.contract h.contract st st (path ++ Into m ∷ []) q n.here here n.choice choice t.fine.compiled t.fine.compiled n.stands eq (ap (λ y. pay_to (s.hash y)) (sym sc) ∙ sym n.script ∙ hs') in
+        let same = same_position s size few_contracts w check hs clear heard_of h.contract h.contract st st (path ++ Into m ∷ [])
+        q n.here here n.choice choice t.fine.compiled t.fine.compiled n.stands eq (ap (λ y. pay_to (s.hash y)) (sym sc) ∙ sym n.script ∙ hs') in
         ap (λ p. Some (record { contract = h.contract; position = p })) same.1
     holds_position (withdraw p) e q here choice m x eq hx hs' =
-        let r = one_of (pays s.hash (party_script s.hash p) (t.fine.here.output.value - st.advert.fee)) x m (ap (λ xs. slice_get xs m) (sym (outputs_are (withdraw p) e)) ∙ hx) in
+        let r = one_of (pays s.hash (party_script s.hash p) (t.fine.here.output.value - st.advert.fee)) x m
+        (ap (λ xs. slice_get xs m) (sym (outputs_are (withdraw p) e)) ∙ hx) in
         absurd (not_deposit h.contract st q here choice p t.fine.compiled eq (t.payee p e) (sym hs' ∙ ap (λ (y : TxOut). y.script) (sym r.1)))
     holds_position (auth party body) e q here choice m x eq hx hs' = let o = ap (λ xs. slice_get xs m) (sym (outputs_are (auth party body) e)) ∙ hx in cc
     holds_position (after height body) e q here choice m x eq hx hs' = let o = ap (λ xs. slice_get xs m) (sym (outputs_are (after height body) e)) ∙ hx in cc
@@ -327,7 +347,8 @@ module _ (s : Setup) (size : HashesBytes s.hash) (few_contracts : length s.contr
                 ≡ Some (record { contract = j; position = q })
             by_making (initial_making a b i) = absurd (not_initial s w tx j su not_init c i)
             by_making (branch_making bb i n) =
-                let u = branch_first s size g w kept fit check hs clear sub tx fits spent acc all j su bb.is_branch.position bb.from_here bb.is_branch.choice bb.index bb.branch c bb.is_branch.stands i in
+                let u = branch_first s size g w kept fit check hs clear sub
+                tx fits spent acc all j su bb.is_branch.position bb.from_here bb.is_branch.choice bb.index bb.branch c bb.is_branch.stands i in
                 let v : (let o : Option ContractPosition = Some h in o) ≡ Some (record { contract = j; position = bb.is_branch.position }) = sym t.holds ∙ u in
                 let hv : h ≡ record { contract = j; position = bb.is_branch.position } = cc in
                 let jc : h.contract ≡ j = ap (λ (y : ContractPosition). y.contract) hv in

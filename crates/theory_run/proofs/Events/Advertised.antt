@@ -55,7 +55,9 @@ named_looked (b ∷ bs) x h = grind (arith, named_looked bs x)
 pub all_looked : (bs : List (List ℕ × ℕ)) (names : List (List ℕ)) → list_all (λ n. is_among n (names_of bs)) names ≡ true
     → list_all (λ m. is_some (look_up m bs)) names ≡ true
 all_looked bs [] h = refl
-all_looked bs (m ∷ names) h = let p = and_parts (is_among m (names_of bs)) (list_all (λ n. is_among n (names_of bs)) names) h in and_from _ _ (named_looked bs m p.0) (all_looked bs names p.1)
+all_looked bs (m ∷ names) h =
+    let p = and_parts (is_among m (names_of bs)) (list_all (λ n. is_among n (names_of bs)) names) h in
+    and_from _ _ (named_looked bs m p.0) (all_looked bs names p.1)
 
 -- ---- what the row says of a binding
 
@@ -180,7 +182,9 @@ suits_bound s w h n t = by_output (output_at w n) refl t
 -- an entry of different names is what its name is looked up as
 entry_looked : (e : List ℕ × Holding) (ds : List (List ℕ × Holding)) (d : List ℕ × Holding) → is_among (e.0) (names_of ds) ≡ false
     → Is_in d (e ∷ ds) → (Is_in d ds → look_up (d.0) ds ≡ Some (d.1)) → look_up (d.0) (e ∷ ds) ≡ Some (d.1)
-entry_looked e ds d f (inl q) ih = let z : bytes_eq (e.0) (d.0) ≡ true = subst (λ (y : List ℕ × Holding). bytes_eq (e.0) (y.0) ≡ true) (sym q) (bytes_refl (e.0)) in rw z (ap (λ (y : List ℕ × Holding). Some (y.1)) (sym q))
+entry_looked e ds d f (inl q) ih =
+    let z : bytes_eq (e.0) (d.0) ≡ true = subst (λ (y : List ℕ × Holding). bytes_eq (e.0) (y.0) ≡ true) (sym q) (bytes_refl (e.0)) in
+    rw z (ap (λ (y : List ℕ × Holding). Some (y.1)) (sym q))
 entry_looked e ds d f (inr i) ih = by_test (bytes_eq (e.0) (d.0)) refl
   where
     by_test : (t : Bool) → bytes_eq (e.0) (d.0) ≡ t → (if t then Some (e.1) else look_up (d.0) ds) ≡ Some (d.1)
@@ -201,6 +205,10 @@ head_apart name pre h =
 pub deposit_looked : (pre : List Pre) (d : List ℕ × Holding) → are_different (map name_in pre) ≡ true → Is_in d (deposits pre)
     → look_up (d.0) (deposits pre) ≡ Some (d.1)
 deposit_looked [] d h i = absurd i
-deposit_looked (Persistent party value name ∷ pre) d h i = let p = head_apart name pre h in entry_looked (name, record { owner = party; value = value }) (deposits pre) d p.0 i (λ k. deposit_looked pre d p.1 k)
-deposit_looked (Volatile party value name ∷ pre) d h i = let p = head_apart name pre h in entry_looked (name, record { owner = party; value = value }) (deposits pre) d p.0 i (λ k. deposit_looked pre d p.1 k)
+deposit_looked (Persistent party value name ∷ pre) d h i =
+    let p = head_apart name pre h in
+    entry_looked (name, record { owner = party; value = value }) (deposits pre) d p.0 i (λ k. deposit_looked pre d p.1 k)
+deposit_looked (Volatile party value name ∷ pre) d h i =
+    let p = head_apart name pre h in
+    entry_looked (name, record { owner = party; value = value }) (deposits pre) d p.0 i (λ k. deposit_looked pre d p.1 k)
 deposit_looked (Secret party name ∷ pre) d h i = deposit_looked pre d (head_apart name pre h).1 i

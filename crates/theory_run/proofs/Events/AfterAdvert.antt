@@ -52,8 +52,14 @@ pub compiled_before : (s : Setup) (w next : World) (k : ℕ) (st : Instance) →
     → have_promised w k (participants a) ≡ true) → compiled_instance s next k ≡ Some st → compiled_instance s w k ≡ Some st
 compiled_before s w next k st outs bound digests adv promised h =
     let c = compiled_is s next k st h in
-    let places : bound_outpoints next (bindings_at next.advertised k) ≡ bound_outpoints w (bindings_at w.advertised k) = ap (bound_outpoints next) bound ∙ places_same w next (bindings_at w.advertised k) outs in
-    let same : instance_of w k c.advert ≡ instance_of next k c.advert = λ i. record { contract = k; advert = c.advert; bound = sym places i; hashes = sym digests i } in
+    let places : bound_outpoints next (bindings_at next.advertised k) ≡ bound_outpoints w (bindings_at w.advertised k) =
+    ap (bound_outpoints next) bound ∙ places_same w next (bindings_at w.advertised k) outs in
+    let same : instance_of w k c.advert ≡ instance_of next k c.advert = λ i. record {
+      contract = k;
+      advert = c.advert;
+      bound = sym places i;
+      hashes = sym digests i;
+    } in
     compiled_from s w k c.advert c.there adv (promised c.advert c.there c.promised) ∙ ap Some (same ∙ sym c.is)
 
 -- ---- lists
@@ -128,10 +134,13 @@ module _ (s : Setup) (setup : IsSetup s) (w : World) (k : ℕ) (bs : List (List 
             there = c;
             made = made;
             bound = λ name h i.
-                let there : is_some (look_up name (arranged 0 (deposit_names s k) bs)) ≡ true = some_arranged (deposit_names s k) bs name (subst (λ ds. is_among name (names_of (deposits ds)) ≡ true) (sym pre) (in_named (deposits a.pre) (name, h) i)) in
+                let there : is_some (look_up name (arranged 0 (deposit_names s k) bs)) ≡ true =
+                some_arranged (deposit_names s k) bs name
+                (subst (λ ds. is_among name (names_of (deposits ds)) ≡ true) (sym pre) (in_named (deposits a.pre) (name, h) i)) in
                 let r = some_there (look_up name (arranged 0 (deposit_names s k) bs)) there in
                 let l = look_arranged (deposit_names s k) bs name r.0 all r.1 in
-                let d : look_up name (deposits (pre_at s k)) ≡ Some h = subst (λ ds. look_up name (deposits ds) ≡ Some h) (sym pre) (deposit_looked a.pre (name, h) (different_names a well) i) in
+                let d : look_up name (deposits (pre_at s k)) ≡ Some h =
+                subst (λ ds. look_up name (deposits ds) ≡ Some h) (sym pre) (deposit_looked a.pre (name, h) (different_names a well) i) in
                 let t = suits_looked s w k bs name r.0 row.1.1.1.1.1.0 l in
                 let b = suits_bound s w h r.0 (subst (λ o. suits s o (output_at w r.0) ≡ true) d t) in (
                   r.0,
@@ -202,7 +211,8 @@ module _ (s : Setup) (setup : IsSetup s) (size : HashesBytes s.hash) (few_contra
           (λ j st q here choice i b a d c e t p h x. cc)
         where
           this_one : (j : ℕ) → is_advertised next j ≡ true → is_advertised w j ≡ false → k ≡ j
-          this_one j h f = elim (or_cases (is_advertised w j) ((k == j) || false) (sym (any-append (λ (a : Advertised). a.contract == j) w.advertised new) ∙ h)) [
-            | inl x ↦ absurd (both_ways _ f x)
-            | inr x ↦ elim (or_cases (k == j) false x) [ inl y ↦ eqb-true k j y | inr y ↦ cc ]
-          ]
+          this_one j h f =
+              elim (or_cases (is_advertised w j) ((k == j) || false) (sym (any-append (λ (a : Advertised). a.contract == j) w.advertised new) ∙ h)) [
+                | inl x ↦ absurd (both_ways _ f x)
+                | inr x ↦ elim (or_cases (k == j) false x) [ inl y ↦ eqb-true k j y | inr y ↦ cc ]
+              ]

@@ -85,7 +85,8 @@ module _ (s : Setup) (setup : IsSetup s) (g : Configuration) (w : World) (kept :
       let e = eqb-true k j t in
       let c = compiled_is s w j su h in
       let part : is_among party (people_at s k) ≡ true = not-false _ row.1.1.0 in
-      let there : is_among party (participants c.advert) ≡ true = ap (λ o. is_among party (people_of o)) (sym c.there) ∙ subst (λ m. is_among party (people_at s m) ≡ true) e part in
+      let there : is_among party (participants c.advert) ≡ true =
+      ap (λ o. is_among party (people_of o)) (sym c.there) ∙ subst (λ m. is_among party (people_at s m) ≡ true) e part in
       both_ways _ (subst (λ m. has_promised w m party ≡ false) e row.1.1.1.0) (all_among (has_promised w j) (participants c.advert) party c.promised there))
 
   stays : (j : ℕ) (su : Instance) → compiled_instance s w j ≡ Some su → compiled_instance s next j ≡ Some su
@@ -118,7 +119,8 @@ module _ (s : Setup) (setup : IsSetup s) (g : Configuration) (w : World) (kept :
 
   -- ---- where it is
 
-  module _ (st : Instance) (now : compiled_instance s next k ≡ Some st) (strings : (t : List ℕ) → is_among t (compiled_strings s.hash st) ≡ true → is_among t hs ≡ true) where
+  module _ (st : Instance) (now : compiled_instance s next k ≡ Some st)
+      (strings : (t : List ℕ) → is_among t (compiled_strings s.hash st) ≡ true → is_among t hs ≡ true) where
     next_promises : KeptPromises s next
     next_promises = one_more_promise s w k party (committed_digests s k party digests) hs posts promises (not-false _ row.1.0)
         (digests_looked s k party digests (not-false _ row.1.1.1.1.0)) (committed_sized s setup.hash k party digests written)
@@ -141,7 +143,9 @@ module _ (s : Setup) (setup : IsSetup s) (g : Configuration) (w : World) (kept :
       where
         by_number : (b : Bool) → (k == j) ≡ b → (compiled_instance s w j ≡ Some su) ⊎ ((k ≡ j) × (st ≡ su))
         by_number false e = inl (back j su e h)
-        by_number true e = let q = eqb-true k j e in let x : (let y : Option Instance = Some st in y) ≡ Some su = sym now ∙ ap (compiled_instance s next) q ∙ h in inr (q, cc)
+        by_number true e =
+            let q = eqb-true k j e in
+            let x : (let y : Option Instance = Some st in y) ≡ Some su = sym now ∙ ap (compiled_instance s next) q ∙ h in inr (q, cc)
 
     heard : (j : ℕ) (su : Instance) → compiled_instance s next j ≡ Some su → (t : List ℕ) → is_among t (compiled_strings s.hash su) ≡ true
         → is_among t hs ≡ true
@@ -153,7 +157,15 @@ module _ (s : Setup) (setup : IsSetup s) (g : Configuration) (w : World) (kept :
     lies : (d : List ℕ × Holding) → Is_in d (persistent st.advert.pre) → Lies s w st d
     lies d i =
         let b = bound_at s next next_adverts k st now (d.0) (d.1) (persistent_deposit st.advert.pre d i) in
-        record { number = b.number; output = b.bound.output; there = b.bound.there; outpoint = b.outpoint; script = b.bound.script; free = b.bound.free; declared = b.bound.declared }
+        record {
+          number = b.number;
+          output = b.bound.output;
+          there = b.bound.there;
+          outpoint = b.outpoint;
+          script = b.bound.script;
+          free = b.bound.free;
+          declared = b.bound.declared;
+        }
 
     ci : IsCompiledAt s next k st
     ci = compiled_is s next k st now
@@ -195,7 +207,11 @@ module _ (s : Setup) (setup : IsSetup s) (g : Configuration) (w : World) (kept :
       ];
       deposit_pairs = λ a d i h x. cause_later s g g' w next frame kept.adverts a d (kept.deposit_pairs a d i h x);
       branch_pairs = λ j su q here choice i b a d c e t p h x. elim (which j su c) [
-        | inl y ↦ (let r = kept.branch_pairs j su q here choice i b a d y e t p h x in record { is = r.is; existed = r.existed; authorised = λ u n v. asked n i a (r.authorised u n v) })
+        | inl y ↦ (let r = kept.branch_pairs j su q here choice i b a d y e t p h x in record {
+          is = r.is;
+          existed = r.existed;
+          authorised = λ u n v. asked n i a (r.authorised u n v);
+        })
         | inr y ↦ absurd (nothing_signed q here choice i b a d (subst (λ z. position_at s.hash z q ≡ Some (here, choice)) (sym y.1) e) t
             (subst (λ z. is_among a (people z) ≡ true) (sym y.1) p) h
             (subst (λ m. has_signed w.book (key_of s.hash (branch_label m (q ++ To i ∷ []) a)) d ≡ true) (sym y.0) x))

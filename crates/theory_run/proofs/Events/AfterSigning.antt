@@ -75,7 +75,8 @@ pub pair_of_deposit : (s : Setup) (st : Instance) (tx : Tx) (party : List ℕ) (
     × (d ≡ digest_of_spent s.hash tx x))
 pair_of_deposit s st tx party [] k d h = cc
 pair_of_deposit s st tx party (e ∷ ds) k d h =
-    elim (first_or_rest (bytes_eq (e.1).owner party) (deposit_key s.hash party) (digest_of_spent s.hash tx (deposit s.hash st e.0 e.1)) k d (pairs_of_deposits s party ds (map (digest_of_spent s.hash tx) (map (λ (e : List ℕ × Holding). deposit s.hash st e.0 e.1) ds))) h) [
+    elim (first_or_rest (bytes_eq (e.1).owner party) (deposit_key s.hash party) (digest_of_spent s.hash tx (deposit s.hash st e.0 e.1)) k d
+    (pairs_of_deposits s party ds (map (digest_of_spent s.hash tx) (map (λ (e : List ℕ × Holding). deposit s.hash st e.0 e.1) ds))) h) [
       | inl u ↦ (u.0, (deposit s.hash st e.0 e.1, inl refl, sym u.1))
       | inr v ↦ (let r = pair_of_deposit s st tx party ds k d v in (r.0, (r.1.0, inr r.1.1, r.1.2)))
     ]
@@ -165,13 +166,18 @@ module _ (s : Setup) (size : HashesBytes s.hash) (few_contracts : length s.contr
         by_need : (n : Need) → NeedIs s.hash st0 n → n.party ≡ party → n.key ≡ deposit_key s.hash a → n.digest ≡ d
             → (h : Needed s (after_pairs endorsing) a d) × (h.contract ≡ k0) × (party ≡ a)
         by_need n (branch_need path dr br part free key dig) np nk nd =
-            let l = heard_label s size few_contracts g w kept check hs clear sub k0 st0 br.is_branch.position br.here br.is_branch.choice br.index br.branch n.party given br.is_branch.stands br.is_branch.there part in
-            let e : key_of s.hash (branch_label k0 (br.is_branch.position ++ To br.index ∷ []) n.party) ≡ deposit_key s.hash a = sym (λ m. key_of s.hash (branch_label (named m) (br.is_branch.path_is m) n.party)) ∙ sym key ∙ nk in
-            let z = same_label s size few_contracts g w kept check hs clear sub (branch_label k0 (br.is_branch.position ++ To br.index ∷ []) n.party) (labels.Deposit a) l (deposit_label s size few_contracts g w kept check hs clear sub a decl) e in
+            let l = heard_label s size few_contracts g w kept check hs clear sub k0 st0
+            br.is_branch.position br.here br.is_branch.choice br.index br.branch n.party given br.is_branch.stands br.is_branch.there part in
+            let e : key_of s.hash (branch_label k0 (br.is_branch.position ++ To br.index ∷ []) n.party) ≡ deposit_key s.hash a =
+            sym (λ m. key_of s.hash (branch_label (named m) (br.is_branch.path_is m) n.party)) ∙ sym key ∙ nk in
+            let z = same_label s size few_contracts g w kept check hs clear sub (branch_label k0 (br.is_branch.position ++ To br.index ∷ []) n.party)
+            (labels.Deposit a) l (deposit_label s size few_contracts g w kept check hs clear sub a decl) e in
             cc
         by_need n (put_need path dr br key y i dig) np nk nd =
             let own : deposit_key s.hash party ≡ deposit_key s.hash a = ap (deposit_key s.hash) (sym np) ∙ sym key ∙ nk in
-            let z = same_label s size few_contracts g w kept check hs clear sub (labels.Deposit party) (labels.Deposit a) (deposit_label s size few_contracts g w kept check hs clear sub party declared) (deposit_label s size few_contracts g w kept check hs clear sub a decl) own in (
+            let z = same_label s size few_contracts g w kept check hs clear sub
+            (labels.Deposit party) (labels.Deposit a) (deposit_label s size few_contracts g w kept check hs clear sub party declared)
+            (deposit_label s size few_contracts g w kept check hs clear sub a decl) own in (
               record {
                 contract = k0;
                 instance = st0;
@@ -204,7 +210,8 @@ module _ (s : Setup) (size : HashesBytes s.hash) (few_contracts : length s.contr
             ≡ d → BranchCause s g' (after_pairs endorsing) k st q here i b a d
         by_need n (put_need path dr br key y j dig) np nk nd =
             let decl : is_declared s n.party ≡ true = subst (λ z. is_declared s z ≡ true) (sym np) declared in
-            let z = same_label s size few_contracts g w kept check hs clear sub (labels.Deposit n.party) (branch_label k (q ++ To i ∷ []) a) (deposit_label s size few_contracts g w kept check hs clear sub n.party decl) other (sym key ∙ nk) in
+            let z = same_label s size few_contracts g w kept check hs clear sub (labels.Deposit n.party) (branch_label k (q ++ To i ∷ []) a)
+            (deposit_label s size few_contracts g w kept check hs clear sub n.party decl) other (sym key ∙ nk) in
             cc
         by_need n (branch_need path dr br part free key dig) np nk nd = by_label z
           where
@@ -223,7 +230,8 @@ module _ (s : Setup) (size : HashesBytes s.hash) (few_contracts : length s.contr
                 let kc : k0 ≡ k = ap label_contract y in
                 let pq = behind_last br.is_branch.position q br.index i (ap label_path y) in
                 let pa : n.party ≡ a = ap label_party y in
-                let ss = same_spot s w k0 k st0 st br.is_branch.position q br.here here br.is_branch.choice choice br.index i br.branch b given br.is_branch.stands br.is_branch.there c e t kc pq.0 pq.1 in
+                let ss = same_spot s w k0 k st0 st br.is_branch.position q br.here
+                here br.is_branch.choice choice br.index i br.branch b given br.is_branch.stands br.is_branch.there c e t kc pq.0 pq.1 in
                 let unasked : is_asked b a ≡ false = sym (λ m. is_asked (ss.branches m) (pa m)) ∙ free in
                 record {
                   is = sym nd ∙ dig ∙ (λ m. digest_of_spent s.hash
@@ -237,7 +245,8 @@ module _ (s : Setup) (size : HashesBytes s.hash) (few_contracts : length s.contr
 
     -- ---- deposits of the initial transaction
 
-    module _ (now : (e : List ℕ × Holding) → Is_in e (persistent (pre_at s k0)) → (e.1).owner ≡ party → is_bound_live w k0 e ≡ true → is_init_authorised g'.init_authorised k0 (e.0) ≡ true) where
+    module _ (now : (e : List ℕ × Holding) → Is_in e (persistent (pre_at s k0))
+        → (e.1).owner ≡ party → is_bound_live w k0 e ≡ true → is_init_authorised g'.init_authorised k0 (e.0) ≡ true) where
       abbrev starting : List Pair
       starting = initial_pairs s party (Some st0)
 
@@ -245,14 +254,29 @@ module _ (s : Setup) (size : HashesBytes s.hash) (few_contracts : length s.contr
           → (h : Started s g' (after_pairs starting) a d) × (h.contract ≡ k0) × (party ≡ a)
       start_started a d decl x =
           let r = pair_of_deposit s st0 (tx_of (initial_unsigned s.hash st0)) party (persistent st0.advert.pre) (deposit_key s.hash a) d x in
-          let z = same_label s size few_contracts g w kept check hs clear sub (labels.Deposit party) (labels.Deposit a) (deposit_label s size few_contracts g w kept check hs clear sub party declared) (deposit_label s size few_contracts g w kept check hs clear sub a decl) r.0 in
-          let pa : party ≡ a = ap label_party z in
-          (record { contract = k0; instance = st0; compiled = given; spent = r.1.0; persists = r.1.1; is = r.1.2; authorised = λ e i o l. now e i (o ∙ sym pa) l }, refl, pa)
+          let z = same_label s size few_contracts g w kept check hs clear sub
+          (labels.Deposit party) (labels.Deposit a) (deposit_label s size few_contracts g w kept check hs clear sub party declared)
+          (deposit_label s size few_contracts g w kept check hs clear sub a decl) r.0 in
+          let pa : party ≡ a = ap label_party z in (
+            record {
+              contract = k0;
+              instance = st0;
+              compiled = given;
+              spent = r.1.0;
+              persists = r.1.1;
+              is = r.1.2;
+              authorised = λ e i o l. now e i (o ∙ sym pa) l;
+            },
+            refl,
+            pa,
+          )
 
       start_branches : BranchesNew starting
       start_branches k st q here choice i b a d c e t p honest x =
-          let r = pair_of_deposit s st0 (tx_of (initial_unsigned s.hash st0)) party (persistent st0.advert.pre) (key_of s.hash (branch_label k (q ++ To i ∷ []) a)) d x in
-          let z = same_label s size few_contracts g w kept check hs clear sub (labels.Deposit party) (branch_label k (q ++ To i ∷ []) a) (deposit_label s size few_contracts g w kept check hs clear sub party declared)
+          let r = pair_of_deposit s st0 (tx_of (initial_unsigned s.hash st0)) party
+          (persistent st0.advert.pre) (key_of s.hash (branch_label k (q ++ To i ∷ []) a)) d x in
+          let z = same_label s size few_contracts g w kept check hs clear sub (labels.Deposit party)
+          (branch_label k (q ++ To i ∷ []) a) (deposit_label s size few_contracts g w kept check hs clear sub party declared)
           (heard_label s size few_contracts g w kept check hs clear sub k st q here choice i b a c e t p) r.0 in
           cc
 

@@ -53,7 +53,8 @@ piece_numbered bytes piece tx h =
 
 -- ---- events
 
-module _ (s : Setup) (size : HashesBytes s.hash) (few_contracts : length s.contracts ≤ 16) (strings : List (List ℕ)) (g : Configuration) (w : World) (kept : KeptBook s g w) (fit : TransactionsFit s w) (check : Checked s w) (clear : NoCollision s.hash w.hashed) where
+module _ (s : Setup) (size : HashesBytes s.hash) (few_contracts : length s.contracts ≤ 16) (strings : List (List ℕ)) (g : Configuration)
+    (w : World) (kept : KeptBook s g w) (fit : TransactionsFit s w) (check : Checked s w) (clear : NoCollision s.hash w.hashed) where
   -- whatever the ledger says of a transaction without new signatures
   pub reaches_after : (e : Event) (tx : Tx) → IsNumbered tx → KeptAfter s size few_contracts strings g w kept check clear e (reaches s w w tx)
   reaches_after e tx fine = by_verdict (verdict_in s w tx) refl
@@ -128,12 +129,16 @@ module _ (s : Setup) (size : HashesBytes s.hash) (few_contracts : length s.contr
               let y = sym (λ i. taking_of_parts s w held j (compiled i) (chosen i) (b i) (prepared_if_compiled s (compiled i) (position_path held j))) ∙ x in
               cc
           by_branch (Some c) b x =
-              let text : at hf.instance.advert.root (held.position ++ To j ∷ []) ≡ Some c = ap (λ o. branch_in o (position_path held j)) (sym (held_contract s w held act.output hf)) ∙ b in
-              let there : slice_get (branches hf.choice) j ≡ Some c = sym (term_branches s.hash hf.instance held.position hf.here hf.choice j hf.stands) ∙ text in
+              let text : at hf.instance.advert.root (held.position ++ To j ∷ []) ≡ Some c =
+              ap (λ o. branch_in o (position_path held j)) (sym (held_contract s w held act.output hf)) ∙ b in
+              let there : slice_get (branches hf.choice) j ≡ Some c =
+              sym (term_branches s.hash hf.instance held.position hf.here hf.choice j hf.stands) ∙ text in
               let d = branch_unsigned s.hash hf.instance hf.here j c in
-              let made : prepared_at s.hash hf.instance (position_path held j) ≡ Some (prepared s.hash d) = ap (option_map (prepared s.hash)) (unsigned_of_branch s.hash hf.instance held.position hf.here hf.choice j c hf.stands there) in
+              let made : prepared_at s.hash hf.instance (position_path held j) ≡ Some (prepared s.hash d) =
+              ap (option_map (prepared s.hash)) (unsigned_of_branch s.hash hf.instance held.position hf.here hf.choice j c hf.stands there) in
               let y : (let o : Option Tx = Some (taking_transaction s w hf.instance held j hf.choice c (prepared s.hash d)) in o) ≡ Some tx =
-              sym (λ i. taking_of_parts s w held j (compiled i) (chosen i) (b i) ((ap (λ o. prepared_if_compiled s o (position_path held j)) compiled ∙ made) i)) ∙ x in
+              sym (λ i. taking_of_parts s w held j (compiled i)
+              (chosen i) (b i) ((ap (λ o. prepared_if_compiled s o (position_path held j)) compiled ∙ made) i)) ∙ x in
               let z : taking_transaction s w hf.instance held j hf.choice c (prepared s.hash d) ≡ tx = cc in
               subst IsNumbered z (bare_numbered (taking_transaction s w hf.instance held j hf.choice c (prepared s.hash d)) (tx_of d)
               (with-bare (tx_of d) (taking_witnesses s w hf.instance held j hf.choice c (prepared s.hash d)))

@@ -146,8 +146,10 @@ module _ (s : Setup) (size : HashesBytes s.hash) (few_contracts : length s.contr
       (a d : List ℕ) → compiled_instance s w k ≡ Some st → position_at s.hash st q ≡ Some (here, choice) → slice_get (branches choice) i ≡ Some b
       → is_among a (people st) ≡ true → has_signed pairs (key_of s.hash (branch_label k (q ++ To i ∷ []) a)) d ≡ true → ⊥
   given_branch k st q here choice i b a d c e t p x =
-      let r = (key_given (deposit_key s.hash party) (given_digest s w party (unsigned_gift s w inputs outputs)) inputs (key_of s.hash (branch_label k (q ++ To i ∷ []) a)) d x).0 in
-      let z = same_label s size few_contracts g w kept check w.hashed clear (λ u h. h) (labels.Deposit party) (branch_label k (q ++ To i ∷ []) a) (deposit_label s size few_contracts g w kept check w.hashed clear (λ u h. h) party declared)
+      let r = (key_given (deposit_key s.hash party)
+      (given_digest s w party (unsigned_gift s w inputs outputs)) inputs (key_of s.hash (branch_label k (q ++ To i ∷ []) a)) d x).0 in
+      let z = same_label s size few_contracts g w kept check w.hashed clear (λ u h. h) (labels.Deposit party)
+      (branch_label k (q ++ To i ∷ []) a) (deposit_label s size few_contracts g w kept check w.hashed clear (λ u h. h) party declared)
       (heard_label s size few_contracts g w kept check w.hashed clear (λ u h. h) k st q here choice i b a c e t p) r in
       cc
 
@@ -155,7 +157,8 @@ module _ (s : Setup) (size : HashesBytes s.hash) (few_contracts : length s.contr
   pub given_deposit : (a d : List ℕ) → is_declared s a ≡ true → has_signed pairs (deposit_key s.hash a) d ≡ true → party ≡ a
   given_deposit a d decl x =
       let r = (key_given (deposit_key s.hash party) (given_digest s w party (unsigned_gift s w inputs outputs)) inputs (deposit_key s.hash a) d x).0 in
-      let z = same_label s size few_contracts g w kept check w.hashed clear (λ u h. h) (labels.Deposit party) (labels.Deposit a) (deposit_label s size few_contracts g w kept check w.hashed clear (λ u h. h) party declared)
+      let z = same_label s size few_contracts g w kept check w.hashed clear (λ u h. h)
+      (labels.Deposit party) (labels.Deposit a) (deposit_label s size few_contracts g w kept check w.hashed clear (λ u h. h) party declared)
       (deposit_label s size few_contracts g w kept check w.hashed clear (λ u h. h) a decl) r in
       ap label_party z
 
@@ -194,7 +197,8 @@ module _ (s : Setup) (size : HashesBytes s.hash) (few_contracts : length s.contr
 
     -- ---- it is accepted
 
-    module _ (spent made : List ℕ) (said : verdict_in s next (gift s w party inputs outputs) ≡ verdicts.Accepted spent made) (apart : collision s.hash w.hashed (strings_of s next (gift s w party inputs outputs) ++ items_of (gift s w party inputs outputs)) ≡ None) where
+    module _ (spent made : List ℕ) (said : verdict_in s next (gift s w party inputs outputs) ≡ verdicts.Accepted spent made)
+        (apart : collision s.hash w.hashed (strings_of s next (gift s w party inputs outputs) ++ items_of (gift s w party inputs outputs)) ≡ None) where
       abbrev tx : Tx
       tx = gift s w party inputs outputs
 
@@ -218,7 +222,8 @@ module _ (s : Setup) (size : HashesBytes s.hash) (few_contracts : length s.contr
       -- each input spends what it names
       pub spends_given : (n : ℕ) → Is_in n inputs → (has_number n spent ≡ true) × IsSpent s heard tx n (signed_input s w party bare_gift n)
       spends_given n i =
-          let r = spent_at s heard tx spent tx.inputs (signed_input s w party bare_gift n) (accepting s heard tx spent is).spends (signed_in s w party bare_gift inputs n i) in
+          let r = spent_at s heard tx spent tx.inputs
+          (signed_input s w party bare_gift n) (accepting s heard tx spent is).spends (signed_in s w party bare_gift inputs n i) in
           let g = is_given w inputs row.0 n i in
           let m = kept.apart n r.0 g.output r.2.output g.there r.2.there (sym (ap outpoint_of g.there) ∙ r.2.outpoint) in
           subst (λ k. (has_number k spent ≡ true) × IsSpent s heard tx k (signed_input s w party bare_gift n)) (sym m) (r.1, r.2)
@@ -246,8 +251,10 @@ module _ (s : Setup) (size : HashesBytes s.hash) (few_contracts : length s.contr
           let e : (let x : Option Output = Some g.output in x) ≡ Some sp.output = sym g.there ∙ sp.there in
           let f : g.output ≡ sp.output = cc in
           let v : deposit_value (output_at w n) ≡ sp.output.value = ap deposit_value g.there ∙ rw g.deposit refl ∙ ap (λ (x : Output). x.value) f in
-          let hi = heard_input s heard hs tx all (signed_input s w party bare_gift n) n (λ t k. all_strings_of s heard tx (signed_input s w party bare_gift n) t here k) sp in
-          let q : preimage s.hash tx (signed_input s w party bare_gift n) (party_script s.hash party) sp.output.value ≡ preimage s.hash bare_gift (given_input w n) (party_script s.hash party) (deposit_value (output_at w n)) =
+          let hi = heard_input s heard hs tx all (signed_input s w party bare_gift n) n
+          (λ t k. all_strings_of s heard tx (signed_input s w party bare_gift n) t here k) sp in
+          let q : preimage s.hash tx (signed_input s w party bare_gift n) (party_script s.hash party) sp.output.value
+          ≡ preimage s.hash bare_gift (given_input w n) (party_script s.hash party) (deposit_value (output_at w n)) =
           same_preimage s.hash tx bare_gift (signed_input s w party bare_gift n) (given_input w n) (party_script s.hash party) sp.output.value gift_bare refl
           ∙ ap (preimage s.hash bare_gift (given_input w n) (party_script s.hash party)) (sym v) in
           record {
@@ -285,7 +292,8 @@ module _ (s : Setup) (size : HashesBytes s.hash) (few_contracts : length s.contr
               let g = is_given w inputs row.0 n (h n (inl refl)) in
               let z : n + 0 ≡ n = omega arith in
               let t : has_number (n + 0) spent ≡ true = ap (λ k. has_number k spent) z ∙ (spends_given n (h n (inl refl))).0 in
-              let there : slice_get (spend_from 0 spent w.outputs) n ≡ Some (record g.output { live = false }) = get-spent 0 n spent w.outputs ∙ rw (g.there, t) refl in (
+              let there : slice_get (spend_from 0 spent w.outputs) n ≡ Some (record g.output { live = false }) =
+              get-spent 0 n spent w.outputs ∙ rw (g.there, t) refl in (
                 record {
                   number = n;
                   output = record g.output { live = false };
@@ -302,7 +310,8 @@ module _ (s : Setup) (size : HashesBytes s.hash) (few_contracts : length s.contr
       signed_kept = pairs_kept s size few_contracts g w kept check hs
           (no_collision s.hash w.hashed (strings_of s next tx ++ items_of tx) clear apart)
           (λ t h. all_more w.hashed (strings_of s next tx ++ items_of tx) t h) g w.tip w.posted (λ k x h. h) (λ n i a h. h) pairs
-          (λ a d decl honest x. let e = given_deposit a d decl x in gave (subst (λ p. Gave s heard p d) e (given_cause d (subst (λ p. has_signed pairs (deposit_key s.hash p) d ≡ true) (sym e) x))))
+          (λ a d decl honest x. let e = given_deposit a d decl x in
+          gave (subst (λ p. Gave s heard p d) e (given_cause d (subst (λ p. has_signed pairs (deposit_key s.hash p) d ≡ true) (sym e) x))))
           (λ k st q here choice i b a d c e t p honest x. absurd (given_branch k st q here choice i b a d c e t p x))
 
       pub accepted_kept : (g' : Configuration)
@@ -325,5 +334,6 @@ module _ (s : Setup) (size : HashesBytes s.hash) (few_contracts : length s.contr
       by_verdict row (verdicts.Refused r) h =
           refused_after s size few_contracts strings g w kept check clear e (strings_of s next (gift s w party inputs outputs)) (reason.Ledger r)
       by_verdict row (verdicts.Accepted spent made) h = λ apart.
-          let xs = steps_of s strings g w (applied w (accepted s next (gift s w party inputs outputs) spent)) e (accepted s next (gift s w party inputs outputs) spent) in
+          let xs = steps_of s strings g w (applied w (accepted s next (gift s w party inputs outputs) spent)) e
+          (accepted s next (gift s w party inputs outputs) spent) in
           accepted_kept few row spent made h apart (after_steps g xs) (inits_stay xs g) (asked_stay xs g)

@@ -73,11 +73,13 @@ pub now_authorised : (s : Setup) (g : Configuration) (w : World) (contract : ℕ
     → Is_in e (persistent (pre_at s contract)) → (e.1).owner ≡ party → is_bound_live w contract e ≡ true
     → is_init_authorised (after_steps g (init_steps s w contract party)).init_authorised contract (e.0) ≡ true
 now_authorised s g w contract party e i o l =
-    let t : (is_of_party party e && is_bound_live w contract e) ≡ true = and_from _ _ (subst (λ y. bytes_eq (e.1).owner y ≡ true) o (bytes_refl (e.1).owner)) l in
+    let t : (is_of_party party e && is_bound_live w contract e) ≡ true =
+    and_from _ _ (subst (λ y. bytes_eq (e.1).owner y ≡ true) o (bytes_refl (e.1).owner)) l in
     auth_inits_new contract _ g e (filter_has (λ d. is_of_party party d && is_bound_live w contract d) (persistent (pre_at s contract)) e i t)
 
 -- the strings are those of the whole run
-module _ (s : Setup) (size : HashesBytes s.hash) (few_contracts : length s.contracts ≤ 16) (strings : List (List ℕ)) (g : Configuration) (w : World) (kept : KeptBook s g w) (check : Checked s w) (clear : NoCollision s.hash w.hashed) where
+module _ (s : Setup) (size : HashesBytes s.hash) (few_contracts : length s.contracts ≤ 16) (strings : List (List ℕ))
+    (g : Configuration) (w : World) (kept : KeptBook s g w) (check : Checked s w) (clear : NoCollision s.hash w.hashed) where
   -- what is kept is kept after an event that comes to this pending effect, unless it collides
   abbrev pub KeptAfter : Event → Pending → Type 0
   KeptAfter e d = collision s.hash w.hashed d.hashes ≡ None → KeptBook s (after_steps g (steps_of s strings g w (applied w d) e d)) (applied w d)
@@ -170,9 +172,12 @@ module _ (s : Setup) (size : HashesBytes s.hash) (few_contracts : length s.contr
               → KeptBook s (after_steps g xs) (applied w (done (with_pairs w (authorising_pairs s w party (Some held) j)) []))
           by_branch None u v a = cc
           by_branch (Some c) u v a =
-              let ap_text : at hf.instance.advert.root (held.position ++ To j ∷ []) ≡ Some c = ap (λ o. branch_in o (position_path held j)) (sym (held_contract s w held act.output hf)) ∙ u in
-              let has : slice_get (branches hf.choice) j ≡ Some c = sym (term_branches s.hash hf.instance held.position hf.here hf.choice j hf.stands) ∙ ap_text in
-              let part : is_among party (people hf.instance) ≡ true = branch_named hf.instance.advert (held.position ++ To j ∷ []) c party ap_text (asked_mentioned c party a) in
+              let ap_text : at hf.instance.advert.root (held.position ++ To j ∷ []) ≡ Some c =
+              ap (λ o. branch_in o (position_path held j)) (sym (held_contract s w held act.output hf)) ∙ u in
+              let has : slice_get (branches hf.choice) j ≡ Some c =
+              sym (term_branches s.hash hf.instance held.position hf.here hf.choice j hf.stands) ∙ ap_text in
+              let part : is_among party (people hf.instance) ≡ true =
+              branch_named hf.instance.advert (held.position ++ To j ∷ []) c party ap_text (asked_mentioned c party a) in
               authorise_kept s size few_contracts g w kept check w.hashed clear (λ t h. h) (after_steps g xs) w.tip (w.posted ++ [])
               (inits_stay xs g) (asked_stay xs g) party n act.output held act.there hf j c has part (branch_new g.branch_authorised party n j)
 

@@ -25,7 +25,8 @@ secret_named k x (Persistent party value name ∷ pre) h = or_right (bytes_eq na
 secret_named k x (Volatile party value name ∷ pre) h = or_right (bytes_eq name x.secret) _ (secret_named k x pre h)
 secret_named k x (Secret party name ∷ pre) h =
     elim (or_cases (same_secret (record { contract = k; party = party; secret = name }) x) (has_secret x (secrets_of_contract k (secrets pre))) h) [
-      | inl a ↦ or_left _ _ (let e = secret-true (record { contract = k; party = party; secret = name }) x a in subst (λ y. bytes_eq name y ≡ true) (ap (λ (y : Revealed). y.secret) e) (bytes_refl name))
+      | inl a ↦ or_left _ _ (let e = secret-true (record { contract = k; party = party; secret = name }) x a in
+          subst (λ y. bytes_eq name y ≡ true) (ap (λ (y : Revealed). y.secret) e) (bytes_refl name))
       | inr b ↦ or_right (bytes_eq name x.secret) _ (secret_named k x pre b)
     ]
 
@@ -36,7 +37,8 @@ one_contract k (Volatile party value name ∷ pre) h = one_contract k pre (and_p
 one_contract k (Secret party name ∷ pre) h =
     let p = and_parts (not (is_among name (map name_in pre))) (are_different (map name_in pre)) h in
     let x : Revealed = record { contract = k; party = party; secret = name } in
-    let fresh : has_secret x (secrets_of_contract k (secrets pre)) ≡ false = false_from_ne_true _ (λ t. both_ways _ (not-true _ p.0) (secret_named k x pre t)) in
+    let fresh : has_secret x (secrets_of_contract k (secrets pre)) ≡ false =
+    false_from_ne_true _ (λ t. both_ways _ (not-true _ p.0) (secret_named k x pre t)) in
     and_from _ _ (not_from_false _ fresh) (one_contract k pre p.1)
 
 -- ---- all contracts
@@ -51,10 +53,12 @@ contract_is k x (p ∷ ps) h = elim (or_cases (same_secret (record { contract = 
 -- those of later contracts have greater numbers
 later_than : (k : ℕ) (x : Revealed) (cs : List Advert) → x.contract < k → has_secret x (secrets_from k cs) ≡ false
 later_than k x [] h = refl
-later_than k x (c ∷ cs) h = false_from_ne_true _ (λ t. elim (or_cases (has_secret x (secrets_of_contract k (secrets c.pre))) (has_secret x (secrets_from (k + 1) cs)) (sym (has_secret-append x (secrets_of_contract k (secrets c.pre)) (secrets_from (k + 1) cs)) ∙ t)) [
-  | inl a ↦ let e = contract_is k x (secrets c.pre) a in absurd (omega (arith, h, e))
-  | inr b ↦ both_ways _ (later_than (k + 1) x cs (omega (arith, h))) b
-])
+later_than k x (c ∷ cs) h =
+    false_from_ne_true _ (λ t. elim (or_cases (has_secret x (secrets_of_contract k (secrets c.pre)))
+    (has_secret x (secrets_from (k + 1) cs)) (sym (has_secret-append x (secrets_of_contract k (secrets c.pre)) (secrets_from (k + 1) cs)) ∙ t)) [
+      | inl a ↦ let e = contract_is k x (secrets c.pre) a in absurd (omega (arith, h, e))
+      | inr b ↦ both_ways _ (later_than (k + 1) x cs (omega (arith, h))) b
+    ])
 
 different_append : (xs ys : List Revealed) → different_secrets xs ≡ true → different_secrets ys ≡ true
     → ((x : Revealed) → has_secret x xs ≡ true → has_secret x ys ≡ false) → different_secrets (xs ++ ys) ≡ true

@@ -101,7 +101,8 @@ module _ (s : Setup) (g : Configuration) (w : World) (kept : KeptBook s g w) whe
   not_again k party part fresh j st h = false_from_ne_true (k == j) (λ e.
       let c = compiled_is s w j st h in
       let same : k ≡ j = eqb-true k j e in
-      let here : is_among party (participants c.advert) ≡ true = subst (λ o. is_among party (people_of o) ≡ true) c.there (subst (λ n. is_among party (people_at s n) ≡ true) same part) in
+      let here : is_among party (participants c.advert) ≡ true =
+      subst (λ o. is_among party (people_of o) ≡ true) c.there (subst (λ n. is_among party (people_at s n) ≡ true) same part) in
       both_ways _ fresh (subst (λ n. has_promised w n party ≡ true) (sym same) (all_among (has_promised w j) (participants c.advert) party c.promised here)))
 
   committing : (k : ℕ) (party : List ℕ) (ds : List (List ℕ × List ℕ)) → Grows s w (applied w (commit_pending s w k party ds))

@@ -173,7 +173,21 @@ module _ (s : Setup) (g g' : Configuration) (w next : World) (f : Frame s g g' w
   }
 
   unfoldable pub needed_later : (a d : List ℕ) → Needed s w a d → Needed s next a d
-  needed_later a d h = record { contract = h.contract; instance = h.instance; compiled = f.compiled h.contract h.instance h.compiled; position = h.position; here = h.here; choice = h.choice; stands = h.stands; index = h.index; branch = h.branch; there = h.there; spent = h.spent; put = h.put; is = h.is }
+  needed_later a d h = record {
+    contract = h.contract;
+    instance = h.instance;
+    compiled = f.compiled h.contract h.instance h.compiled;
+    position = h.position;
+    here = h.here;
+    choice = h.choice;
+    stands = h.stands;
+    index = h.index;
+    branch = h.branch;
+    there = h.there;
+    spent = h.spent;
+    put = h.put;
+    is = h.is;
+  }
 
   module _ (adverts : (k : ℕ) → is_advertised w k ≡ true → AdvertFine s w k) where
     pub bound_before : (k : ℕ) (e : List ℕ × Holding) → is_advertised w k ≡ true → is_bound_live next k e ≡ true → is_bound_live w k e ≡ true

@@ -97,10 +97,14 @@ checked_now s setup w kept = record { checked = λ k st h. compiled_checked s se
         one n i =
             let l = named_looked (secrets ad.pre) n i in
             let j = looked_in (secrets ad.pre) n l.0 l.1 in
-            let part : is_among l.0 (participants ad) ≡ true = added (map party_of ad.pre ++ choice_mentions ad.root) [] l.0 (among_left l.0 (map party_of ad.pre) (choice_mentions ad.root) (secret_party ad.pre (n, l.0) j)) in
+            let part : is_among l.0 (participants ad) ≡ true =
+            added (map party_of ad.pre ++ choice_mentions ad.root) [] l.0
+            (among_left l.0 (map party_of ad.pre) (choice_mentions ad.root) (secret_party ad.pre (n, l.0) j)) in
             let p = promise_of w.promises k l.0 (all_among (has_promised w k) (participants ad) l.0 c.promised part) in
-            let own : is_among n (secrets_at s k l.0) ≡ true = subst (λ pre. is_among n (secrets_of l.0 pre) ≡ true) (sym (ap pre_of c.there)) (secret_among (secrets ad.pre) n l.0 j) in
-            let own' : is_among n (secrets_at s p.0.contract p.0.party) ≡ true = subst (λ x. is_among n (secrets_at s x p.0.party) ≡ true) (sym p.2) (subst (λ x. is_among n (secrets_at s k x) ≡ true) (sym p.3) own) in
+            let own : is_among n (secrets_at s k l.0) ≡ true =
+            subst (λ pre. is_among n (secrets_of l.0 pre) ≡ true) (sym (ap pre_of c.there)) (secret_among (secrets ad.pre) n l.0 j) in
+            let own' : is_among n (secrets_at s p.0.contract p.0.party) ≡ true =
+            subst (λ x. is_among n (secrets_at s x p.0.party) ≡ true) (sym p.2) (subst (λ x. is_among n (secrets_at s k x) ≡ true) (sym p.3) own) in
             eq-eqb _ 32 (sized_at w.promises k n kept.sized (found_at w.promises k n p.0 p.1 p.2 (kept.full p.0 p.1 n own')))
 
 -- ---- the opening

@@ -35,7 +35,8 @@ looked_by : (s : Setup) (z : List (List ℕ)) (a n : List ℕ) (ds : List (List 
     ≡ option_map (length_in_run s z a n) (look_up n ds)
 looked_by s z a n [] = refl
 looked_by s z a n (d ∷ ds) =
-    let e : bytes_eq (d.0) n ≡ true → length_in_run s z a (d.0) (d.1) ≡ length_in_run s z a n (d.1) = λ k. ap (λ m. length_in_run s z a m (d.1)) (bytes-true (d.0) n k) in
+    let e : bytes_eq (d.0) n ≡ true → length_in_run s z a (d.0) (d.1) ≡ length_in_run s z a n (d.1) =
+    λ k. ap (λ m. length_in_run s z a m (d.1)) (bytes-true (d.0) n k) in
     grind (arith, e, looked_by s z a n ds)
 
 pub length_at-by : (s : Setup) (z : List (List ℕ)) (x : Revealed) (ps : List Promise)
@@ -104,5 +105,6 @@ module _ (s : Setup) (z : List (List ℕ)) where
 
     pub reveals_agree : (x : Revealed) → has_secret x (g.revealed ++ newly_shown s w next) ≡ shown s next x
     reveals_agree x =
-        let member = filter-member comes x (all_secrets s) (λ h. known x (shown-some next.posted (digest_at next.promises x) (and_parts (shown s next x) _ h).0)) in
+        let member = filter-member comes x (all_secrets s)
+        (λ h. known x (shown-some next.posted (digest_at next.promises x) (and_parts (shown s next x) _ h).0)) in
         has_secret-append x g.revealed (newly_shown s w next) ∙ rw (was x, member) (let g' = grows x in grind arith)

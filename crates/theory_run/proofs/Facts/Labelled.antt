@@ -74,12 +74,14 @@ compiled_label s few_contracts w check hs heard k st q here choice i b a c e t p
     let ci = compiled_is s w k st c in
     let sc : st.contract ≡ k = ap (λ (y : Instance). y.contract) ci.is in
     let lt = get_below s.contracts k ci.advert ci.there in
-    let subterm : terms.subterm_from (terms.position st.advert.root) (q ++ To i ∷ []) ≡ Some (terms.at_branch b) = view_at s.hash st (q ++ To i ∷ []) ∙ ap (option_map _) (stand_of_branch s.hash st q here choice i b e t) in (
+    let subterm : terms.subterm_from (terms.position st.advert.root) (q ++ To i ∷ []) ≡ Some (terms.at_branch b) =
+    view_at s.hash st (q ++ To i ∷ []) ∙ ap (option_map _) (stand_of_branch s.hash st q here choice i b e t) in (
       (omega (arith, lt, few_contracts), path_fine st.advert (q ++ To i ∷ []) (terms.at_branch b) (check.checked k st c) subterm),
       subst (λ n. is_among (label_text (branch_label n (q ++ To i ∷ []) a)) hs ≡ true) sc (label_heard s.hash st hs (heard k st c) q here choice i b e t a p),
     )
 
-module _ (s : Setup) (size : HashesBytes s.hash) (few_contracts : length s.contracts ≤ 16) (g : Configuration) (w : World) (kept : KeptBook s g w) (check : Checked s w) (hs : List (List ℕ)) (clear : NoCollision s.hash hs) (sub : (t : List ℕ) → is_among t w.hashed ≡ true → is_among t hs ≡ true) where
+module _ (s : Setup) (size : HashesBytes s.hash) (few_contracts : length s.contracts ≤ 16) (g : Configuration) (w : World) (kept : KeptBook s g w)
+    (check : Checked s w) (hs : List (List ℕ)) (clear : NoCollision s.hash hs) (sub : (t : List ℕ) → is_among t w.hashed ≡ true → is_among t hs ≡ true) where
   -- a label that a run's messages have
   pub record IsHeard (l : Label) : Type 0 where
     pub fine : IsLabel l
@@ -101,7 +103,8 @@ module _ (s : Setup) (size : HashesBytes s.hash) (few_contracts : length s.contr
 
   -- ---- a pair that a dishonest party signs at will
 
-  module _ (g' : Configuration) (next : World) (party : List ℕ) (label : Label) (digest : List ℕ) (lies : is_honest s party ≡ false) (owned : label_party label ≡ party) (fine : IsHeard label) where
+  module _ (g' : Configuration) (next : World) (party : List ℕ)
+      (label : Label) (digest : List ℕ) (lies : is_honest s party ≡ false) (owned : label_party label ≡ party) (fine : IsHeard label) where
     pub lie_deposit : (a d : List ℕ) → is_declared s a ≡ true → is_honest s a ≡ true
         → has_signed ((key_of s.hash label, digest) ∷ []) (deposit_key s.hash a) d ≡ true → ⊥
     lie_deposit a d k h x =
@@ -125,7 +128,8 @@ module _ (s : Setup) (size : HashesBytes s.hash) (few_contracts : length s.contr
 
   module _ (g' : Configuration) (next : World) (outs : next.outputs ≡ w.outputs) (party : List ℕ) (n : ℕ) (o : Output)
       (held : ContractPosition) (there : slice_get w.outputs n ≡ Some o) (fine : HeldFine s w o held)
-      (j : ℕ) (c : term.Guarded) (has : slice_get (branches fine.choice) j ≡ Some c) (part : is_among party (people fine.instance) ≡ true) (now : has_branch_authorised g'.branch_authorised n j party ≡ true) where
+      (j : ℕ) (c : term.Guarded) (has : slice_get (branches fine.choice) j ≡ Some c)
+      (part : is_among party (people fine.instance) ≡ true) (now : has_branch_authorised g'.branch_authorised n j party ≡ true) where
     abbrev digest : List ℕ
     digest = digest_of_spent s.hash (tx_of (branch_unsigned s.hash fine.instance fine.here j c)) fine.here.output
 
@@ -195,7 +199,8 @@ module _ (s : Setup) (size : HashesBytes s.hash) (few_contracts : length s.contr
           existed = λ z. (n, o, subst (λ os. slice_get os n ≡ Some o) (sym outs) there, fine.outpoint ∙ ap (λ (y : Standing). y.output.outpoint) heres);
           authorised = λ z m hm.
               let u = held_there m hm in
-              let v = kept.apart m n u.0 o u.1 there ((kept.held m u.0 (record { contract = k; position = q }) u.1 u.2).outpoint ∙ sym (same_place m u.0 u.1 u.2)) in
+              let v = kept.apart m n u.0 o u.1 there
+              ((kept.held m u.0 (record { contract = k; position = q }) u.1 u.2).outpoint ∙ sym (same_place m u.0 u.1 u.2)) in
               subst (λ y. has_branch_authorised g'.branch_authorised y i a ≡ true) (sym v)
               (subst (λ y. has_branch_authorised g'.branch_authorised n y a ≡ true) pq.1
               (subst (λ y. has_branch_authorised g'.branch_authorised n j y ≡ true) pa now));
@@ -224,7 +229,8 @@ module _ (s : Setup) (size : HashesBytes s.hash) (few_contracts : length s.contr
                 let f = kept.held m x (record { contract = k; position = q }) l z in
                 let u : (let y : Option Instance = Some f.instance in y) ≡ Some st = sym f.compiled ∙ given in
                 let us : f.instance ≡ st = cc in
-                let v : (let y : Option (Standing × Contract) = Some (f.here, f.choice) in y) ≡ Some (here, choice) = sym f.stands ∙ ap (λ y. position_at s.hash y q) us ∙ e in
+                let v : (let y : Option (Standing × Contract) = Some (f.here, f.choice) in y) ≡ Some (here, choice) =
+                sym f.stands ∙ ap (λ y. position_at s.hash y q) us ∙ e in
                 let vb : (let y : Standing × Contract = (f.here, f.choice) in y) ≡ (here, choice) = cc in
                 let vh : f.here ≡ here = ap (λ (y : Standing × Contract). y.0) vb in
                 fine.outpoint ∙ ap (λ (y : Standing). y.output.outpoint) (heres ∙ sym vh)

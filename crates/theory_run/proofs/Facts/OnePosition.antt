@@ -36,7 +36,8 @@ pays_same hash hs clear a b ha hb e = let h : hash a ≡ hash b = cc in clear.on
 
 module _ (s : Setup) (size : HashesBytes s.hash) (few_contracts : length s.contracts ≤ 16) (w : World) (check : Checked s w)
     (hs : List (List ℕ)) (clear : NoCollision s.hash hs)
-    (heard : (k : ℕ) (st : Instance) → compiled_instance s w k ≡ Some st → (t : List ℕ) → is_among t (compiled_strings s.hash st) ≡ true → is_among t hs ≡ true) where
+    (heard : (k : ℕ) (st : Instance) → compiled_instance s w k ≡ Some st
+    → (t : List ℕ) → is_among t (compiled_strings s.hash st) ≡ true → is_among t hs ≡ true) where
   abbrev pub Key : Instance → List PathStep → Contract → Type 0
   Key st q choice = (a : ScriptKey s.hash st q (position_script s.hash st q choice))
       × IsLabel (branch_label st.contract (q ++ To 0 ∷ []) a.person) × (is_among (label_text (branch_label st.contract (q ++ To 0 ∷ []) a.person)) hs ≡ true)
@@ -68,8 +69,10 @@ module _ (s : Setup) (size : HashesBytes s.hash) (few_contracts : length s.contr
   same_position k j st su q r here there c d ck cj eq er p =
       let a = position_key k st q here c ck eq in
       let b = position_key j su r there d cj er in
-      let ha : is_among (position_script s.hash st q c) hs ≡ true = subst (λ x. is_among x hs ≡ true) (position_stands s.hash st q here c eq).script (script_heard s.hash st hs (heard k st ck) q here c eq) in
-      let hb : is_among (position_script s.hash su r d) hs ≡ true = subst (λ x. is_among x hs ≡ true) (position_stands s.hash su r there d er).script (script_heard s.hash su hs (heard j su cj) r there d er) in
+      let ha : is_among (position_script s.hash st q c) hs ≡ true =
+      subst (λ x. is_among x hs ≡ true) (position_stands s.hash st q here c eq).script (script_heard s.hash st hs (heard k st ck) q here c eq) in
+      let hb : is_among (position_script s.hash su r d) hs ≡ true =
+      subst (λ x. is_among x hs ≡ true) (position_stands s.hash su r there d er).script (script_heard s.hash su hs (heard j su cj) r there d er) in
       let e = pays_same s.hash hs clear (position_script s.hash st q c) (position_script s.hash su r d) ha hb p in
       one_position s.hash size.size hs clear st su q r (position_script s.hash su r d)
       (record {
@@ -90,8 +93,10 @@ module _ (s : Setup) (size : HashesBytes s.hash) (few_contracts : length s.contr
   pub one_initial : (k j : ℕ) (st su : Instance) → compiled_instance s w k ≡ Some st → compiled_instance s w j ≡ Some su
       → bare (tx_of (initial_unsigned s.hash st)) ≡ bare (tx_of (initial_unsigned s.hash su)) → k ≡ j
   one_initial k j st su ck cj e =
-      let p : pay_to (s.hash (position_script s.hash st [] st.advert.root)) ≡ pay_to (s.hash (position_script s.hash su [] su.advert.root)) = ap (λ (y : Tx). first_script y.outputs) e in
-      let r = same_position k j st su [] [] (root_standing s.hash st) (root_standing s.hash su) st.advert.root su.advert.root ck cj (root_position s.hash st) (root_position s.hash su) p in
+      let p : pay_to (s.hash (position_script s.hash st [] st.advert.root)) ≡ pay_to (s.hash (position_script s.hash su [] su.advert.root)) =
+      ap (λ (y : Tx). first_script y.outputs) e in
+      let r = same_position k j st su [] [] (root_standing s.hash st)
+      (root_standing s.hash su) st.advert.root su.advert.root ck cj (root_position s.hash st) (root_position s.hash su) p in
       let a : st.contract ≡ k = ap (λ (y : Instance). y.contract) (compiled_is s w k st ck).is in
       let b : su.contract ≡ j = ap (λ (y : Instance). y.contract) (compiled_is s w j su cj).is in
       sym a ∙ r.0 ∙ b

@@ -50,7 +50,9 @@ among_map f x (y ∷ xs) h = elim (or_cases (bytes_eq y x) (is_among x xs) h) [
 
 -- ---- whose a script is
 
-module _ (s : Setup) (hs : List (List ℕ)) (clear : NoCollision s.hash hs) (labelled : (a : List ℕ) → is_declared s a ≡ true → is_among (label_text (labels.Deposit a)) hs ≡ true) (programs : (a : List ℕ) → is_declared s a ≡ true → is_among (party_script s.hash a) hs ≡ true) where
+module _ (s : Setup) (hs : List (List ℕ))
+    (clear : NoCollision s.hash hs) (labelled : (a : List ℕ) → is_declared s a ≡ true → is_among (label_text (labels.Deposit a)) hs ≡ true)
+    (programs : (a : List ℕ) → is_declared s a ≡ true → is_among (party_script s.hash a) hs ≡ true) where
   -- different parties have different scripts
   pub one_payee : (a b : List ℕ) → is_declared s a ≡ true → is_declared s b ≡ true → paid_to s a ≡ paid_to s b → a ≡ b
   one_payee a b ha hb e =

@@ -74,7 +74,8 @@ pub signs_compiled : (s : Setup) (w : World) (hs : List (List ℕ)) → KeptLabe
     ≡ true → is_honest s a ≡ true → has_signed w.book (key_of s.hash (branch_label k path a)) d ≡ true → is_some (compiled_instance s w k) ≡ true
 signs_compiled s w hs kept clear sub k path a d fine heard honest h =
     let l = kept.signed (key_of s.hash (branch_label k path a)) d h in
-    let e : l.label ≡ branch_label k path a = one_label l.label (branch_label k path a) l.fine fine (key-apart s.hash hs l.label (branch_label k path a) clear (sub _ l.heard) heard l.is) in
+    let e : l.label ≡ branch_label k path a =
+    one_label l.label (branch_label k path a) l.fine fine (key-apart s.hash hs l.label (branch_label k path a) clear (sub _ l.heard) heard l.is) in
     subst (IsOwn s w) e l.own honest
 
 -- ---- later
@@ -106,11 +107,13 @@ label_later s w next key f h = record { label = h.label; fine = h.fine; heard = 
 pub labels_later : (s : Setup) (w next : World) (ps : List Pair) → KeptLabels s w → Grows s w next
     → ((k d : List ℕ) → has_signed next.book k d ≡ true → (has_signed w.book k d ≡ true) ⊎ (has_signed ps k d ≡ true))
     → ((k d : List ℕ) → has_signed ps k d ≡ true → HasLabel s next k) → KeptLabels s next
-labels_later s w next ps kept f back new = record { signed = λ k d h. elim (back k d h) [ inl x ↦ label_later s w next k f (kept.signed k d x) | inr y ↦ new k d y ] }
+labels_later s w next ps kept f back new =
+    record { signed = λ k d h. elim (back k d h) [ inl x ↦ label_later s w next k f (kept.signed k d x) | inr y ↦ new k d y ] }
 
 -- ---- every event
 
-module _ (s : Setup) (size : HashesBytes s.hash) (few_contracts : length s.contracts ≤ 16) (g : Configuration) (w : World) (kept : KeptBook s g w) (check : Checked s w) (clear : NoCollision s.hash w.hashed) (own : KeptLabels s w) where
+module _ (s : Setup) (size : HashesBytes s.hash) (few_contracts : length s.contracts ≤ 16)
+    (g : Configuration) (w : World) (kept : KeptBook s g w) (check : Checked s w) (clear : NoCollision s.hash w.hashed) (own : KeptLabels s w) where
   abbrev Heard : Label → Type 0
   Heard l = IsHeard s size few_contracts g w kept check w.hashed clear (λ t h. h) l
 
@@ -150,7 +153,8 @@ module _ (s : Setup) (size : HashesBytes s.hash) (few_contracts : length s.contr
       by_need : (n : Need) → NeedIs s.hash st n → n.party ≡ party → n.key ≡ key → IsKeyOf s w party key
       by_need n (branch_need path dr br part free nk dig) np e =
           let named : st.contract ≡ k = ap (λ (y : Instance). y.contract) (compiled_is s w k st c).is in
-          let l = heard_label s size few_contracts g w kept check w.hashed clear (λ t h. h) k st br.is_branch.position br.here br.is_branch.choice br.index br.branch n.party c br.is_branch.stands br.is_branch.there part in
+          let l = heard_label s size few_contracts g w kept check w.hashed clear (λ t h. h)
+          k st br.is_branch.position br.here br.is_branch.choice br.index br.branch n.party c br.is_branch.stands br.is_branch.there part in
           old_label key party (branch_label k (br.is_branch.position ++ To br.index ∷ []) n.party) np l
           (sym (λ m. key_of s.hash (branch_label (named m) (br.is_branch.path_is m) n.party)) ∙ sym nk ∙ e) (λ honest. ap is_some c)
       by_need n (put_need path dr br nk y i dig) np e = of_deposit key party decl (ap (deposit_key s.hash) (sym np) ∙ sym nk ∙ e)
@@ -176,13 +180,19 @@ module _ (s : Setup) (size : HashesBytes s.hash) (few_contracts : length s.contr
       by_branch : (o : Option term.Guarded) → position_branch s held j ≡ o → is_some o ≡ true → is_among party (asked_by o) ≡ true → IsKeyOf s w party key
       by_branch None u v q = cc
       by_branch (Some c) u v q =
-          let in_text : at hf.instance.advert.root (held.position ++ To j ∷ []) ≡ Some c = ap (λ o. branch_in o (position_path held j)) (sym (held_contract s w held act.output hf)) ∙ u in
+          let in_text : at hf.instance.advert.root (held.position ++ To j ∷ []) ≡ Some c =
+          ap (λ o. branch_in o (position_path held j)) (sym (held_contract s w held act.output hf)) ∙ u in
           let has : slice_get (branches hf.choice) j ≡ Some c = sym (term_branches s.hash hf.instance held.position hf.here hf.choice j hf.stands) ∙ in_text in
-          let part : is_among party (people hf.instance) ≡ true = branch_named hf.instance.advert (held.position ++ To j ∷ []) c party in_text (asked_mentioned c party q) in
-          let l = heard_label s size few_contracts g w kept check w.hashed clear (λ t h. h) held.contract hf.instance held.position hf.here hf.choice j c party hf.compiled hf.stands has part in
-          let pairs = ap (λ (x : Option Instance). branch_pair s party held.contract (position_path held j) (prepared_if_compiled s x (position_path held j))) hf.compiled
-          ∙ ap (λ x. branch_pair s party held.contract (position_path held j) (option_map (prepared s.hash) x)) (unsigned_of_branch s.hash hf.instance held.position hf.here hf.choice j c hf.stands has) in
-          let p = one_pair (key_of s.hash (branch_label held.contract (held.position ++ To j ∷ []) party)) _ key d (subst (λ ps. has_signed ps key d ≡ true) pairs h) in
+          let part : is_among party (people hf.instance) ≡ true =
+          branch_named hf.instance.advert (held.position ++ To j ∷ []) c party in_text (asked_mentioned c party q) in
+          let l = heard_label s size few_contracts g w kept check w.hashed clear
+          (λ t h. h) held.contract hf.instance held.position hf.here hf.choice j c party hf.compiled hf.stands has part in
+          let pairs = ap (λ (x : Option Instance). branch_pair s party held.contract
+          (position_path held j) (prepared_if_compiled s x (position_path held j))) hf.compiled
+          ∙ ap (λ x. branch_pair s party held.contract (position_path held j) (option_map (prepared s.hash) x))
+          (unsigned_of_branch s.hash hf.instance held.position hf.here hf.choice j c hf.stands has) in
+          let p = one_pair (key_of s.hash (branch_label held.contract (held.position ++ To j ∷ []) party)) _ key d
+          (subst (λ ps. has_signed ps key d ≡ true) pairs h) in
           old_label key party (branch_label held.contract (held.position ++ To j ∷ []) party) refl l p.0 (λ honest. ap is_some hf.compiled)
 
   pub given_labels : (party : List ℕ) → is_declared s party ≡ true → (inputs : List ℕ) (outputs : List (List ℕ × ℕ)) (key d : List ℕ)
@@ -214,14 +224,22 @@ module _ (s : Setup) (size : HashesBytes s.hash) (few_contracts : length s.contr
       → KeptLabels s (record (with_promise s w k party digests) { hashed = noted_all w.hashed hashes; posted = posts })
   committed_labels k party digests hashes posts =
       let next : World = record (with_promise s w k party digests) { hashed = noted_all w.hashed hashes; posted = posts } in
-      let f : Grows s w next = record { hashed = λ t h. all_more w.hashed hashes t h; adverts = λ j h. h; promises = λ j a h. any-append (is_promise_of j a) w.promises _ ∙ or_left _ _ h } in
+      let f : Grows s w next = record {
+        hashed = λ t h. all_more w.hashed hashes t h;
+        adverts = λ j h. h;
+        promises = λ j a h. any-append (is_promise_of j a) w.promises _ ∙ or_left _ _ h;
+      } in
       labels_later s w next [] own f (λ j d h. inl h) (λ j d h. cc)
 
   advertised_labels : (k : ℕ) (bs : List (List ℕ × ℕ)) (posts : List (List ℕ))
       → KeptLabels s (record w { advertised = w.advertised ++ record { contract = k; bindings = bs } ∷ []; posted = posts })
   advertised_labels k bs posts =
       let next : World = record w { advertised = w.advertised ++ record { contract = k; bindings = bs } ∷ []; posted = posts } in
-      let f : Grows s w next = record { hashed = λ t h. h; adverts = λ j h. any-append (λ (a : Advertised). a.contract == j) w.advertised _ ∙ or_left _ _ h; promises = λ j a h. h } in
+      let f : Grows s w next = record {
+        hashed = λ t h. h;
+        adverts = λ j h. any-append (λ (a : Advertised). a.contract == j) w.advertised _ ∙ or_left _ _ h;
+        promises = λ j a h. h;
+      } in
       labels_later s w next [] own f (λ j d h. inl h) (λ j d h. cc)
 
   pub labels_after : (e : Event) → IsEvent s e → KeptLabels s (applied w (pending s w e))

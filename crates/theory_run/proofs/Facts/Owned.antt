@@ -20,7 +20,8 @@ use Rattle.theory_world.specs.KeptApart.{NoCollision}
 use Rattle.theory_world.proofs.Book.{key-apart}
 use Rattle.theory_run.specs.KeptBook.{KeptBook}
 
-module _ (s : Setup) (g : Configuration) (w : World) (kept : KeptBook s g w) (hs : List (List ℕ)) (clear : NoCollision s.hash hs) (sub : (t : List ℕ) → is_among t w.hashed ≡ true → is_among t hs ≡ true) where
+module _ (s : Setup) (g : Configuration) (w : World) (kept : KeptBook s g w)
+    (hs : List (List ℕ)) (clear : NoCollision s.hash hs) (sub : (t : List ℕ) → is_among t w.hashed ≡ true → is_among t hs ≡ true) where
   abbrev party_in : Label → List ℕ
   party_in (labels.Deposit party) = party
   party_in (labels.Branch contract path party) = party
@@ -29,7 +30,8 @@ module _ (s : Setup) (g : Configuration) (w : World) (kept : KeptBook s g w) (hs
   pub paid_same : (p q : List ℕ) → is_declared s p ≡ true → is_declared s q ≡ true → paid_to s p ≡ paid_to s q → p ≡ q
   paid_same p q dp dq e =
       let h : s.hash (party_script s.hash p) ≡ s.hash (party_script s.hash q) = cc in
-      let x : party_script s.hash p ≡ party_script s.hash q = clear.one (party_script s.hash p) (party_script s.hash q) (sub _ (kept.programs p dp)) (sub _ (kept.programs q dq)) h in
+      let x : party_script s.hash p ≡ party_script s.hash q =
+      clear.one (party_script s.hash p) (party_script s.hash q) (sub _ (kept.programs p dp)) (sub _ (kept.programs q dq)) h in
       let y : deposit_key s.hash p ++ 172 ∷ [] ≡ deposit_key s.hash q ++ 172 ∷ [] = cc in
       let k = append_cancel_right (deposit_key s.hash p) (deposit_key s.hash q) (172 ∷ []) y in
       let t = key-apart s.hash hs (labels.Deposit p) (labels.Deposit q) clear (sub _ (kept.labelled p dp)) (sub _ (kept.labelled q dq)) k in

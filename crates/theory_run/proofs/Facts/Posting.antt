@@ -64,7 +64,9 @@ module _ (s : Setup) (t : List ℕ) (long : is_secret_long t ≡ true) where
 
   -- where the secret is posted, it is shown
   pub own_shows : (posted : List (List ℕ)) → is_among t posted ≡ true → is_shown s posted (Some (s.hash t)) ≡ true
-  own_shows posted h = find_any (fits s (s.hash t)) posted (any_then (λ u. bytes_eq u t) (fits s (s.hash t)) posted (λ u i f. let e = bytes-true u t f in subst (λ v. fits s (s.hash t) v ≡ true) (sym e) (and_from _ _ long (bytes_refl (s.hash t)))) h)
+  own_shows posted h =
+      find_any (fits s (s.hash t)) posted (any_then (λ u. bytes_eq u t) (fits s (s.hash t)) posted
+      (λ u i f. let e = bytes-true u t f in subst (λ v. fits s (s.hash t) v ≡ true) (sym e) (and_from _ _ long (bytes_refl (s.hash t)))) h)
 
 -- ---- guesses
 
@@ -82,7 +84,9 @@ own_tested posted posts al (x ∷ xs) a n t h k i j = by_test (is_guessed posted
   where
     here : (o : Option (List ℕ × List ℕ)) → (is_among x.bytes posts && not (is_among x.bytes posted) && not (is_allowed o x)) ≡ false
         → x.bytes ≡ t → x.party ≡ a → x.name ≡ n → allows o a n ≡ true
-    here None f e ea en = let y : is_among x.bytes posts ≡ true = rw e i in let v : is_among x.bytes posted ≡ false = rw e j in absurd (both_ways _ f (rw (y, v) refl))
+    here None f e ea en =
+        let y : is_among x.bytes posts ≡ true = rw e i in
+        let v : is_among x.bytes posted ≡ false = rw e j in absurd (both_ways _ f (rw (y, v) refl))
     here (Some p) f e ea en =
         let y : is_among x.bytes posts ≡ true = rw e i in
         let v : is_among x.bytes posted ≡ false = rw e j in
@@ -127,7 +131,8 @@ revealed_by s z g w next hs ps al k ec ep eh clear unguessed heard x sh hid hone
     let heard' : (t : List ℕ) → is_among t next.posted ≡ true → is_among t next.hashed ≡ true = λ t h.
     rw eh (elim (among_split t w.posted ps (rw ep at h)) [ inl a ↦ all_more w.hashed hs t (k.heard t a) | inr b ↦ all_new w.hashed hs t (heard t b) ]) in
     let shows : is_shown s next.posted (digest_at w.promises x) ≡ true = rw ec at sh in
-    let o = is_own-some s w.hashed (held_secret s x.party x.secret) (digest_at w.promises x) (k.own x honest) (shown-is_some s next.posted (digest_at w.promises x) shows) in
+    let o = is_own-some s w.hashed (held_secret s x.party x.secret)
+    (digest_at w.promises x) (k.own x honest) (shown-is_some s next.posted (digest_at w.promises x) shows) in
     let e = o.digest in
     let t = o.secret in
     let th : is_among t next.hashed ≡ true = rw eh (all_more w.hashed hs t o.heard) in

@@ -30,12 +30,17 @@ module _ (hash : List ℕ → List ℕ) (st : Instance) where
     where
       by_branch : (o : Option term.Guarded) → slice_get (branches choice) i ≡ o → option_map (by_path.at_branch here i) o ≡ Some end → Readable end
       by_branch None e q = cc
-      by_branch (Some b) e q = let z : by_path.at_branch here i b ≡ end = cc in subst Readable z (branch_readable choice i b (and_parts (is_readable_count choice) (are_readable choice) f).1 e)
+      by_branch (Some b) e q =
+          let z : by_path.at_branch here i b ≡ end = cc in
+          subst Readable z (branch_readable choice i b (and_parts (is_readable_count choice) (are_readable choice) f).1 e)
 
   at_continued : (here : Standing) (i : ℕ) (b c : term.Guarded) (p : Standing × Contract) → is_readable_branch c ≡ true
       → continued_end hash st here i b c ≡ Some p → is_fine p.1 ≡ true
   at_continued here i b (put_reveal puts reveals test next) p f h =
-      let z : (let q : Standing × Contract = (continued hash st (branch_path here.position i) (branch_unsigned hash st here i b) (continued_value st here.output.value puts) next, next) in q) ≡ p = cc in
+      let z : (let q : Standing × Contract =
+      (continued hash st (branch_path here.position i) (branch_unsigned hash st here i b) (continued_value st here.output.value puts) next, next) in q)
+      ≡ p =
+      cc in
       let r = and_parts _ (is_readable_test test && is_fine next) f in
       subst (λ (q : Standing × Contract). is_fine q.1 ≡ true) z (and_parts (is_readable_test test) (is_fine next) r.1).1
   at_continued here i b (withdraw party) p f h = cc

@@ -1,4 +1,5 @@
--- Which contracts are advertised and what is committed changes only where a contract is advertised or a party commits; and what is kept of commitments is kept after every event.
+-- Which contracts are advertised and what is committed changes only where a contract is advertised or a party commits; and what is kept
+-- of commitments is kept after every event.
 use Rattle.std.proofs.Common.{◌≡◌, ℕ, List, [], ◌∷◌, ◌++◌, length, Bool, true, false, Option, Some, None, Result, Ok, Err, refl, sym, ap, ◌∙◌, subst}
 use Rattle.std.specs.Prelude.{◌==◌, if◌then◌else◌}
 use Rattle.std.specs.List.{list_any, AllByRecursion}

@@ -96,7 +96,8 @@ module _ (s : Setup) (setup : IsSetup s) (before : List Record) (g : Configurati
     (fit : TransactionsFit s w) (check : Checked s w) (leave : KeptLeave s before g w) (clear : NoCollision s.hash w.hashed)
     (hs : List (List ℕ)) (clear_hs : NoCollision s.hash hs) (sub : (t : List ℕ) → is_among t w.hashed ≡ true → is_among t hs ≡ true)
     (tx : Tx) (fits : IsNumbered tx) (spent : List ℕ) (acc : Accepting s w tx spent) (all : HeardAll s w hs tx)
-    (a : List ℕ) (declared : is_declared s a ≡ true) (n : ℕ) (i : TxIn) (here : Is_in i tx.inputs) (sp : IsSpent s w tx n i) (paid : sp.output.script ≡ paid_to s a) (free : sp.output.holds ≡ None) where
+    (a : List ℕ) (declared : is_declared s a ≡ true) (n : ℕ) (i : TxIn)
+    (here : Is_in i tx.inputs) (sp : IsSpent s w tx n i) (paid : sp.output.script ≡ paid_to s a) (free : sp.output.holds ≡ None) where
   -- ---- what it is bound to
 
   bound_one : (k : ℕ) (st : Instance) → compiled_instance s w k ≡ Some st → (d : List ℕ × Holding) → Is_in d (deposits st.advert.pre)
@@ -106,9 +107,11 @@ module _ (s : Setup) (setup : IsSetup s) (before : List Record) (g : Configurati
       let same = kept.apart n at.number sp.output at.bound.output sp.there at.bound.there (sym sp.outpoint ∙ p ∙ at.outpoint) in
       let e : (let o : Option Output = Some sp.output in o) ≡ Some at.bound.output = sym sp.there ∙ ap (slice_get w.outputs) same ∙ at.bound.there in
       let f : sp.output ≡ at.bound.output = cc in
-      let owner = paid_same s g w kept hs clear_hs sub ((d.1).owner) a at.bound.declared declared (sym at.bound.script ∙ ap (λ (o : Output). o.script) (sym f) ∙ paid) in
+      let owner = paid_same s g w kept hs clear_hs sub
+      ((d.1).owner) a at.bound.declared declared (sym at.bound.script ∙ ap (λ (o : Output). o.script) (sym f) ∙ paid) in
       let number : st.contract ≡ k = ap (λ (y : Instance). y.contract) (compiled_is s w k st c).is in
-      let looked : look_up (d.0) (bindings_at w.advertised k) ≡ Some at.number = ap (λ m. look_up (d.0) (bindings_at w.advertised m)) (sym number) ∙ at.looked in
+      let looked : look_up (d.0) (bindings_at w.advertised k) ≡ Some at.number =
+      ap (λ m. look_up (d.0) (bindings_at w.advertised m)) (sym number) ∙ at.looked in
       let t : is_number n (look_up (d.0) (bindings_at w.advertised k)) ≡ true = ap (is_number n) looked ∙ eq-eqb at.number n (sym same) in
       and_from _ _ (subst (λ y. bytes_eq (d.1).owner y ≡ true) owner (bytes_refl (d.1).owner)) t
 
@@ -147,11 +150,14 @@ module _ (s : Setup) (setup : IsSetup s) (before : List Record) (g : Configurati
       by_place (inr f) =
           let u = in_map (λ name. deposit s.hash st name (holding_or_none (look_up name (volatile st.advert.pre)))) (puts_of (core b)) m.0 f in
           let name = u.0 in
-          let known = all_in (λ x. is_among x (names_of (volatile st.advert.pre))) (puts_of (core b)) name (puts_known st.advert (compiled_checked s setup w k st c) q choice (term_choice s.hash st q pos choice stands) j b there) u.1 in
+          let known = all_in (λ x. is_among x (names_of (volatile st.advert.pre))) (puts_of (core b)) name
+          (puts_known st.advert (compiled_checked s setup w k st c) q choice (term_choice s.hash st q pos choice stands) j b there) u.1 in
           let h = volatile_named st.advert.pre name known in
-          let p : i.prev ≡ (deposit s.hash st name h.0).outpoint = at_place ∙ ap (λ (y : Spent). y.outpoint) u.2 ∙ ap (λ o. (deposit s.hash st name (holding_or_none o)).outpoint) h.1 in
+          let p : i.prev ≡ (deposit s.hash st name h.0).outpoint =
+          at_place ∙ ap (λ (y : Spent). y.outpoint) u.2 ∙ ap (λ o. (deposit s.hash st name (holding_or_none o)).outpoint) h.1 in
           let t = bound_one k st c (name, h.0) h.2 p in
-          let v : is_put_of w k a n name (look_up name (volatile (pre_at s k))) ≡ true = ap (λ o. is_put_of w k a n name (look_up name (volatile (pre_of o)))) (advert_of s w k st c) ∙ ap (is_put_of w k a n name) h.1 ∙ t in
+          let v : is_put_of w k a n name (look_up name (volatile (pre_at s k))) ≡ true =
+          ap (λ o. is_put_of w k a n name (look_up name (volatile (pre_of o)))) (advert_of s w k st c) ∙ ap (is_put_of w k a n name) h.1 ∙ t in
           any_in (λ x. is_put_of w k a n x (look_up x (volatile (pre_at s k)))) (puts_of (core b)) name u.1 v
 
   -- it is the compiled transaction of its path
@@ -204,7 +210,8 @@ module _ (s : Setup) (setup : IsSetup s) (before : List Record) (g : Configurati
 
         by_leave : Leave s before g w a signs → Took
         by_leave (by_gift h dead) =
-            let same = same_gift s setup.hash g w kept fit check hs clear_hs sub tx fits none heard_lists a signs i (party_script s.hash a) sp.output.value place digest_heard h refl in
+            let same = same_gift s setup.hash g w kept fit check hs clear_hs sub tx fits none heard_lists a signs i
+            (party_script s.hash a) sp.output.value place digest_heard h refl in
             let r = place_in tx.inputs h.tx.inputs i same.places here in
             let d = dead_in w h.tx.inputs r.0 dead r.1 in
             absurd (not_dead s setup.hash g w kept fit check hs clear_hs sub tx fits spent acc all i d.number d.output here d.there (d.outpoint ∙ r.2) d.dead)
@@ -227,7 +234,8 @@ module _ (s : Setup) (setup : IsSetup s) (before : List Record) (g : Configurati
         × (kind_of s w tx spent ≡ Takes (record { contract = h.contract; position = h.position }) fst.number t.index)
     put_kind h e =
         let held : ContractPosition = record { contract = h.contract; position = h.position } in
-        let q = branch_first s setup.hash g w kept fit check hs clear_hs sub tx fits spent acc all h.contract h.instance h.position h.here h.choice h.index h.branch h.compiled h.stands e in
+        let q = branch_first s setup.hash g w kept fit
+        check hs clear_hs sub tx fits spent acc all h.contract h.instance h.position h.here h.choice h.index h.branch h.compiled h.stands e in
         let i0 : initial_of s w tx ≡ None = by_initial (initial_of s w tx) refl q in (
           first_taking s setup.hash setup.few_contracts g w kept fit check hs clear_hs sub tx fits spent acc all held q,
           kind_taken s
@@ -250,7 +258,8 @@ module _ (s : Setup) (setup : IsSetup s) (before : List Record) (g : Configurati
         by_initial None x = absurd (not_initial s w tx h.contract h.instance x h.compiled e)
         by_initial (Some k) x =
             let is = initial_is s w tx k x in
-            let same = one_initial s setup.hash setup.few_contracts w check w.hashed clear kept.heard k h.contract is.instance h.instance is.compiled h.compiled (sym is.is ∙ e) in
+            let same = one_initial s setup.hash setup.few_contracts
+            w check w.hashed clear kept.heard k h.contract is.instance h.instance is.compiled h.compiled (sym is.is ∙ e) in
             ap (λ o. kind_by s tx spent o (first_position w spent)) x ∙ ap Begins same
 
     -- the party has given its leave before
@@ -263,7 +272,8 @@ module _ (s : Setup) (setup : IsSetup s) (before : List Record) (g : Configurati
             let t = k.0 in
             let held : ContractPosition = record { contract = h.contract; position = h.position } in
             let b = looked_branch s w held fst.spends.output t.fine t.index t.branch t.there in
-            let puts = branch_puts h.contract t.fine.instance h.position t.fine.here t.fine.choice t.index t.branch t.fine.compiled t.fine.stands t.there t.is in
+            let puts = branch_puts h.contract t.fine.instance
+            h.position t.fine.here t.fine.choice t.index t.branch t.fine.compiled t.fine.stands t.there t.is in
             let is = path_is h.contract t.fine.instance h.position t.fine.here t.fine.choice t.index t.branch t.fine.compiled t.fine.stands t.there t.is in
             ap (by_contract s w before a n tx) k.1 ∙ and_from _ _ (and_from _ _ is (ap (λ o. takes_put s w h.contract o a n) b ∙ puts)) was
         by_took (start_took h e was) =

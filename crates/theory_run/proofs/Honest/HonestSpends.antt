@@ -68,7 +68,9 @@ paid_among s (p ∷ ps) script a h = by_test (bytes_eq (paid_to s p) script) ref
     by_test : (t : Bool) → bytes_eq (paid_to s p) script ≡ t → (if t then Party p else owner_among s ps script) ≡ Party a
         → (owner_among s ps script ≡ Party a → (is_among a ps ≡ true) × (script ≡ paid_to s a)) → ((bytes_eq p a || is_among a ps) ≡ true)
         × (script ≡ paid_to s a)
-    by_test true e q ih = let z : p ≡ a = cc in (or_left _ _ (subst (λ y. bytes_eq p y ≡ true) z (bytes_refl p)), sym (bytes-true (paid_to s p) script e) ∙ ap (paid_to s) z)
+    by_test true e q ih =
+        let z : p ≡ a = cc in
+        (or_left _ _ (subst (λ y. bytes_eq p y ≡ true) z (bytes_refl p)), sym (bytes-true (paid_to s p) script e) ∙ ap (paid_to s) z)
     by_test false e q ih = let r = ih q in (or_right (bytes_eq p a) _ r.0, r.1)
 
 pub owns : (s : Setup) (w : World) (a : List ℕ) (n : ℕ) → owner_of s (output_at w n) ≡ Party a → Owns s w a n
@@ -99,7 +101,8 @@ gone_spent os news spent n o there live gone = by_test (has_number n spent) refl
         let f = get-prefix (spend_from 0 spent os) news n o g in
         absurd (both_ways _ (sym (ap is_deposit f) ∙ gone) live)
 
-module _ (s : Setup) (setup : IsSetup s) (before : List Record) (g : Configuration) (w : World) (kept : KeptBook s g w) (fit : TransactionsFit s w) (check : Checked s w) (leave : KeptLeave s before g w) (clear : NoCollision s.hash w.hashed) where
+module _ (s : Setup) (setup : IsSetup s) (before : List Record) (g : Configuration) (w : World) (kept : KeptBook s g w)
+    (fit : TransactionsFit s w) (check : Checked s w) (leave : KeptLeave s before g w) (clear : NoCollision s.hash w.hashed) where
   -- the claim of one event that comes to this pending effect, unless it collides
   abbrev Claims : Event → Pending → Type 0
   Claims e d = collision s.hash w.hashed d.hashes ≡ None → SpendsWithLeave s before w (record_of e d) (applied w d)
@@ -120,8 +123,10 @@ module _ (s : Setup) (setup : IsSetup s) (before : List Record) (g : Configurati
       let o = owns s w a n own in
       let hs = noted_all w.hashed (strings_of s w tx ++ items_of tx) in
       let acc : Accepting s w tx spent = accepting s w tx spent (accepted_by s w tx spent made v) in
-      let all : HeardAll s w hs tx = record { heard = λ t h. all_new w.hashed (strings_of s w tx ++ items_of tx) t (among_left t (strings_of s w tx) (items_of tx) h) } in
-      let number = gone_spent w.outputs (made_from (new_position s (kind_of s w tx spent)) (txid s.hash tx) 0 tx.outputs) spent n o.output o.there o.deposit gone in
+      let all : HeardAll s w hs tx =
+      record { heard = λ t h. all_new w.hashed (strings_of s w tx ++ items_of tx) t (among_left t (strings_of s w tx) (items_of tx) h) } in
+      let number = gone_spent w.outputs
+      (made_from (new_position s (kind_of s w tx spent)) (txid s.hash tx) 0 tx.outputs) spent n o.output o.there o.deposit gone in
       let i = input_for s w tx spent tx.inputs n acc.spends number in
       let sp = i.2 in
       let e1 : (let x : Option Output = Some sp.output in x) ≡ Some o.output = sym sp.there ∙ o.there in
@@ -188,8 +193,10 @@ module _ (s : Setup) (setup : IsSetup s) (before : List Record) (g : Configurati
           let tx = gift s w party inputs outputs in
           let next = with_pairs w (given_pairs s w party inputs outputs) in
           let o = owns s w a n own in
-          let number = gone_spent w.outputs (made_from (new_position s (kind_of s next tx spent)) (txid s.hash tx) 0 tx.outputs) spent n o.output o.there o.deposit gone in
-          let same = spent_is s setup.hash setup.few_contracts [] g w kept fit check clear party is.giver inputs outputs is.few_outputs row spent made h apart in
+          let number = gone_spent w.outputs
+          (made_from (new_position s (kind_of s next tx spent)) (txid s.hash tx) 0 tx.outputs) spent n o.output o.there o.deposit gone in
+          let same = spent_is s setup.hash setup.few_contracts
+          [] g w kept fit check clear party is.giver inputs outputs is.few_outputs row spent made h apart in
           let given : has_number n inputs ≡ true = subst (λ ns. has_number n ns ≡ true) same number in
           let giver = own_given party inputs n a row.1.0 given own in
           or_left (gives a n (events.Give party inputs outputs)) (by_transaction s w before a n spent (Some tx))

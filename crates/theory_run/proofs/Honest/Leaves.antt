@@ -58,7 +58,8 @@ leave_later s before rs g g' w next f adverts a d (by_start h was) =
 
 -- ---- one event
 
-module _ (s : Setup) (strings : List (List ℕ)) (before : List Record) (g : Configuration) (w : World) (kept : KeptBook s g w) (leave : KeptLeave s before g w) (e : Event) where
+module _ (s : Setup) (strings : List (List ℕ))
+    (before : List Record) (g : Configuration) (w : World) (kept : KeptBook s g w) (leave : KeptLeave s before g w) (e : Event) where
   -- what is kept after an event that comes to this pending effect, unless it collides
   abbrev pub LeaveAfter : Pending → Type 0
   LeaveAfter d = collision s.hash w.hashed d.hashes ≡ None

@@ -73,12 +73,15 @@ asked_pairs s size few_contracts g w kept check clear party n j held e b asks a 
     by_branch : (o : Option term.Guarded) → position_branch s held j ≡ o → is_some o ≡ true → is_among party (asked_by o) ≡ true → ⊥
     by_branch None u v k = cc
     by_branch (Some c) u v k =
-        let text : at hf.instance.advert.root (held.position ++ To j ∷ []) ≡ Some c = ap (λ o. branch_in o (position_path held j)) (sym (held_contract s w held act.output hf)) ∙ u in
+        let text : at hf.instance.advert.root (held.position ++ To j ∷ []) ≡ Some c =
+        ap (λ o. branch_in o (position_path held j)) (sym (held_contract s w held act.output hf)) ∙ u in
         let has : slice_get (branches hf.choice) j ≡ Some c = sym (term_branches s.hash hf.instance held.position hf.here hf.choice j hf.stands) ∙ text in
-        let part : is_among party (people hf.instance) ≡ true = branch_named hf.instance.advert (held.position ++ To j ∷ []) c party text (asked_mentioned c party k) in
+        let part : is_among party (people hf.instance) ≡ true =
+        branch_named hf.instance.advert (held.position ++ To j ∷ []) c party text (asked_mentioned c party k) in
         let g' = after_steps g (steps.AuthBranch party n j ∷ []) in
         let now = branch_new g.branch_authorised party n j in
-        let y = subst (λ ps. has_signed ps (deposit_key s.hash a) d ≡ true) (pairs_are s size few_contracts g w kept check w.hashed clear (λ t i. i) g' w refl party n act.output held act.there hf j c has part now) x in
+        let y = subst (λ ps. has_signed ps (deposit_key s.hash a) d ≡ true)
+        (pairs_are s size few_contracts g w kept check w.hashed clear (λ t i. i) g' w refl party n act.output held act.there hf j c has part now) x in
         authorised_deposit s size few_contracts g w kept check w.hashed clear (λ t i. i) g' w refl party n act.output held act.there hf j c
         has part now a d decl y
 
@@ -88,7 +91,8 @@ given_leave : (s : Setup) (size : HashesBytes s.hash) (few_contracts : length s.
     (clear : NoCollision s.hash w.hashed) (leave : KeptLeave s before g w)
     (party : List ℕ) (declared : is_declared s party ≡ true) (inputs : List ℕ) (outputs : List (List ℕ × ℕ)) (few : length outputs ≤ 262144)
     (row : NoneTrue (give_row s w party inputs outputs)) (spent made : List ℕ)
-    → (let next = with_pairs w (given_pairs s w party inputs outputs) in let tx = gift s w party inputs outputs in let d = accepted s next tx spent in let e = events.Give party inputs outputs in
+    → (let next = with_pairs w (given_pairs s w party inputs outputs) in
+    let tx = gift s w party inputs outputs in let d = accepted s next tx spent in let e = events.Give party inputs outputs in
     verdict_in s next tx ≡ verdicts.Accepted spent made → collision s.hash w.hashed (strings_of s next tx ++ items_of tx) ≡ None
     → give_pending s w party inputs outputs ≡ d
     → KeptLeave s (before ++ record_of e d ∷ []) (after_steps g (steps_of s strings g w (applied w d) e d)) (applied w d))
@@ -101,15 +105,26 @@ given_leave s size few_contracts strings before g w kept fit check clear leave p
     let own : World = heard s size few_contracts strings g w kept fit check clear party declared inputs outputs few row spent made v apart in
     let f = frame_of s strings before g w kept leave e d q in
     let xs = steps_of s strings g w (applied w d) e d in
-    let later : Frame s g (after_steps g xs) own (applied w d) = record { outputs = f.outputs; book = λ k x h. h; hashed = λ t h. h; compiled = f.compiled; bindings = f.bindings; inits = inits_stay xs g; asked = asked_stay xs g } in
+    let later : Frame s g (after_steps g xs) own (applied w d) = record {
+      outputs = f.outputs;
+      book = λ k x h. h;
+      hashed = λ t h. h;
+      compiled = f.compiled;
+      bindings = f.bindings;
+      inits = inits_stay xs g;
+      asked = asked_stay xs g;
+    } in
     leave_by s strings before g w kept leave e d q pairs (λ k x h. signed_back w.book pairs k x h) (λ a x decl honest h.
     let same = given_deposit s size few_contracts strings g w kept fit check clear party declared inputs outputs a x decl h in
-    let cause = given_cause s size few_contracts strings g w kept fit check clear party declared inputs outputs few row spent made v apart x (subst (λ p. has_signed pairs (deposit_key s.hash p) x ≡ true) (sym same) h) in
+    let cause = given_cause s size few_contracts strings g w kept fit check clear party declared inputs outputs few row spent made v apart x
+    (subst (λ p. has_signed pairs (deposit_key s.hash p) x ≡ true) (sym same) h) in
     subst (λ p. Leave s (before ++ record_of e d ∷ []) (after_steps g xs) (applied w d) p x) same
     (by_gift (gave_later s g (after_steps g xs) own (applied w d) later party x cause)
     (given_dead s size few_contracts strings g w kept fit check clear party declared inputs outputs few row spent made v apart)))
 
-module _ (s : Setup) (size : HashesBytes s.hash) (few_contracts : length s.contracts ≤ 16) (strings : List (List ℕ)) (before : List Record) (g : Configuration) (w : World) (kept : KeptBook s g w) (fit : TransactionsFit s w) (check : Checked s w) (clear : NoCollision s.hash w.hashed) (leave : KeptLeave s before g w) where
+module _ (s : Setup) (size : HashesBytes s.hash) (few_contracts : length s.contracts ≤ 16)
+    (strings : List (List ℕ)) (before : List Record) (g : Configuration) (w : World) (kept : KeptBook s g w)
+    (fit : TransactionsFit s w) (check : Checked s w) (clear : NoCollision s.hash w.hashed) (leave : KeptLeave s before g w) where
   abbrev After : Event → Pending → Type 0
   After e d = LeaveAfter s strings before g w kept leave e d
 
@@ -131,7 +146,8 @@ module _ (s : Setup) (size : HashesBytes s.hash) (few_contracts : length s.contr
           let d = done (with_pairs w pairs) [] in
           let xs = steps_of s strings g w (applied w d) (events.Endorse contract party) d in
           leave_by s strings before g w kept leave (events.Endorse contract party) d q pairs (λ k x h. signed_back w.book pairs k x h) (λ a x decl honest h.
-          let r = endorse_needed s size few_contracts g w kept check w.hashed clear (λ t i. i) (after_steps g xs) w.tip (w.posted ++ []) (inits_stay xs g) (asked_stay xs g) party declared contract st c a x decl h in
+          let r = endorse_needed s size few_contracts g w kept check w.hashed clear
+          (λ t i. i) (after_steps g xs) w.tip (w.posted ++ []) (inits_stay xs g) (asked_stay xs g) party declared contract st c a x decl h in
           by_endorsement r.0 (was_new (is_endorse r.0.contract a) before (record_of (events.Endorse contract party) d) refl
           (and_from _ _ (eq-eqb contract r.0.contract (sym r.1)) (subst (λ y. bytes_eq party y ≡ true) r.2 (bytes_refl party)))))
 
@@ -150,7 +166,8 @@ module _ (s : Setup) (size : HashesBytes s.hash) (few_contracts : length s.contr
           let pairs = initial_pairs s party (Some st) in
           let d = done (with_pairs w pairs) [] in
           leave_by s strings before g w kept leave (events.Init contract party) d q pairs (λ k x h. signed_back w.book pairs k x h) (λ a x decl honest h.
-          let r = start_started s size few_contracts g w kept check w.hashed clear (λ t i. i) (after_steps g xs) w.tip (w.posted ++ []) (inits_stay xs g) (asked_stay xs g) party declared contract st c (now_authorised s g w contract party) a x decl h in
+          let r = start_started s size few_contracts g w kept check w.hashed clear (λ t i. i) (after_steps g xs) w.tip
+          (w.posted ++ []) (inits_stay xs g) (asked_stay xs g) party declared contract st c (now_authorised s g w contract party) a x decl h in
           by_start r.0 (was_new (is_init r.0.contract a) before (record_of (events.Init contract party) d) refl
           (and_from _ _ (eq-eqb contract r.0.contract (sym r.1)) (subst (λ y. bytes_eq party y ≡ true) r.2 (bytes_refl party)))))
 

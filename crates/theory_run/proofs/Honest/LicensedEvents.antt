@@ -98,7 +98,8 @@ module _ (s : Setup) (setup : IsSetup s) (strings : List (List ℕ)) (before : L
       let d = accepted s w tx spent in
       let hs = noted_all w.hashed (strings_of s w tx ++ items_of tx) in
       let acc : Accepting s w tx spent = accepting s w tx spent (accepted_by s w tx spent made v) in
-      let all : HeardAll s w hs tx = record { heard = λ t h. all_new w.hashed (strings_of s w tx ++ items_of tx) t (among_left t (strings_of s w tx) (items_of tx) h) } in
+      let all : HeardAll s w hs tx =
+      record { heard = λ t h. all_new w.hashed (strings_of s w tx ++ items_of tx) t (among_left t (strings_of s w tx) (items_of tx) h) } in
       licensed_append s e (reveals s w (applied w d)) (kind_steps s g w tx spent (kind_of s w tx spent))
       (nobody e d refl refl (λ t h. among_right t (strings_of s w tx) (items_of tx) h) apart unguessed)
       (kind_licensed s setup before g w kept fit check leave clear hs
@@ -130,7 +131,8 @@ module _ (s : Setup) (setup : IsSetup s) (strings : List (List ℕ)) (before : L
       let b = paid_owned os p.1 in
       λ j. (a j, o.1) ∷ b j
 
-  module _ (party : List ℕ) (inputs : List ℕ) (outputs : List (List ℕ × ℕ)) (is : IsGift s party inputs outputs) (row : NoneTrue (give_row s w party inputs outputs)) where
+  module _ (party : List ℕ) (inputs : List ℕ)
+      (outputs : List (List ℕ × ℕ)) (is : IsGift s party inputs outputs) (row : NoneTrue (give_row s w party inputs outputs)) where
     abbrev tx : Tx
     tx = gift s w party inputs outputs
 
@@ -227,7 +229,8 @@ module _ (s : Setup) (setup : IsSetup s) (strings : List (List ℕ)) (before : L
       unless_claim e (first_reason (digest_row s w k party ds)) own last (λ fresh apart unguessed begins.
       let next = applied w last in
       let hashes = own ++ strings_compiled s (compiled_instance s promised k) in
-      let heard : (t : List ℕ) → is_among t own ≡ true → is_among t hashes ≡ true = λ t h. among_left t own (strings_compiled s (compiled_instance s promised k)) h in (
+      let heard : (t : List ℕ) → is_among t own ≡ true → is_among t hashes ≡ true =
+      λ t h. among_left t own (strings_compiled s (compiled_instance s promised k)) h in (
         (λ honest. (refl, refl)),
         licensed_reveals s e w next (λ x sh hid honest. absurd
             (none_shown s strings (all_different s setup.contracts) g w constant advertised secrets k party ds none fresh hashes next refl

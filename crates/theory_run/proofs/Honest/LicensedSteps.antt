@@ -120,7 +120,8 @@ owner_spent s w spent p h =
 
 module _ (s : Setup) (setup : IsSetup s) (before : List Record) (g : Configuration) (w : World) (kept : KeptBook s g w)
     (fit : TransactionsFit s w) (check : Checked s w) (leave : KeptLeave s before g w) (clear : NoCollision s.hash w.hashed)
-    (hs : List (List ℕ)) (clear_hs : NoCollision s.hash hs) (sub : (t : List ℕ) → is_among t w.hashed ≡ true → is_among t hs ≡ true) (tx : Tx) (fits : IsNumbered tx) (spent : List ℕ) (acc : Accepting s w tx spent) (all : HeardAll s w hs tx) (e : Event) where
+    (hs : List (List ℕ)) (clear_hs : NoCollision s.hash hs) (sub : (t : List ℕ) → is_among t w.hashed ≡ true → is_among t hs ≡ true)
+    (tx : Tx) (fits : IsNumbered tx) (spent : List ℕ) (acc : Accepting s w tx spent) (all : HeardAll s w hs tx) (e : Event) where
   abbrev fst : First s setup.hash g w kept fit check hs clear_hs sub tx fits spent acc all
   fst = first s setup.hash g w kept fit check hs clear_hs sub tx fits spent acc all
 
@@ -143,8 +144,14 @@ module _ (s : Setup) (setup : IsSetup s) (before : List Record) (g : Configurati
       by_took : (n : ℕ) (o : Owns s w p n) (i : TxIn) (here : Is_in i tx.inputs) (sp : IsSpent s w tx n i)
           (paid : sp.output.script ≡ paid_to s p) (free : sp.output.holds ≡ None)
           → Took s setup before g w kept fit check leave clear hs clear_hs sub tx fits spent acc all p o.declared n i here sp paid free honest → ⊥
-      by_took n o i here sp paid free (put_took h q was) = let k = (put_kind s setup before g w kept fit check leave clear hs clear_hs sub tx fits spent acc all p o.declared n i here sp paid free honest h q).1 in let z = sym kind ∙ k in cc
-      by_took n o i here sp paid free (start_took h q was) = let k = start_kind s setup before g w kept fit check leave clear hs clear_hs sub tx fits spent acc all p o.declared n i here sp paid free honest h q in let z = sym kind ∙ k in cc
+      by_took n o i here sp paid free (put_took h q was) =
+          let k =
+          (put_kind s setup before g w kept fit check leave clear hs clear_hs sub tx fits spent acc all p o.declared n i here sp paid free honest h q).1 in
+          let z = sym kind ∙ k in cc
+      by_took n o i here sp paid free (start_took h q was) =
+          let k = start_kind s setup before g w kept
+          fit check leave clear hs clear_hs sub tx fits spent acc all p o.declared n i here sp paid free honest h q in
+          let z = sym kind ∙ k in cc
 
   pub move_licensed : kind_of s w tx spent ≡ Moves → Licensed s e (move_steps s w tx spent)
   move_licensed kind =
@@ -206,9 +213,13 @@ module _ (s : Setup) (setup : IsSetup s) (before : List Record) (g : Configurati
 
       by_took : Took s setup before g w kept fit check leave clear hs clear_hs sub tx fits spent acc all (d.1).owner at.bound.declared
           at.number r.0 r.1 sp paid free honest → is_init_authorised g.init_authorised k (d.0) ≡ true
-      by_took (put_took h q was) = let x = (put_kind s setup before g w kept fit check leave clear hs clear_hs sub tx fits spent acc all (d.1).owner at.bound.declared at.number r.0 r.1 sp paid free honest h q).1 in let z = sym kind ∙ x in cc
+      by_took (put_took h q was) =
+          let x = (put_kind s setup before g w kept fit check leave clear hs clear_hs sub tx fits spent acc all
+          (d.1).owner at.bound.declared at.number r.0 r.1 sp paid free honest h q).1 in
+          let z = sym kind ∙ x in cc
       by_took (start_took h q was) =
-          let x = start_kind s setup before g w kept fit check leave clear hs clear_hs sub tx fits spent acc all (d.1).owner at.bound.declared at.number r.0 r.1 sp paid free honest h q in
+          let x = start_kind s setup before g w kept fit check leave clear hs clear_hs sub tx fits spent acc all
+          (d.1).owner at.bound.declared at.number r.0 r.1 sp paid free honest h q in
           let z = sym x ∙ kind in
           let c : h.contract ≡ k = cc in
           subst (λ m. is_init_authorised g.init_authorised m (d.0) ≡ true) c
@@ -240,8 +251,11 @@ module _ (s : Setup) (setup : IsSetup s) (before : List Record) (g : Configurati
     asked_given : (p : List ℕ) → Is_in p (people_at s h.contract) → is_honest s p ≡ true → is_asked taking.opened.b p ≡ true
         → has_branch_authorised g.branch_authorised fst.number taking.opened.i p ≡ true
     asked_given p there honest asks =
-        let part : is_among p (people hf.instance) ≡ true = subst (λ o. is_among p (people_of o) ≡ true) (advert_of s w h.contract hf.instance hf.compiled) (in_among (people_at s h.contract) p there) in
-        let bc = kept.branch_pairs h.contract hf.instance h.position hf.here hf.choice taking.opened.i taking.opened.b p (digest s.hash tx fst.input hf.here.output.script fst.spends.output.value) hf.compiled hf.stands taking.opened.is_branch part honest (taking.signed p part) in
+        let part : is_among p (people hf.instance) ≡ true =
+        subst (λ o. is_among p (people_of o) ≡ true) (advert_of s w h.contract hf.instance hf.compiled) (in_among (people_at s h.contract) p there) in
+        let bc = kept.branch_pairs h.contract hf.instance h.position hf.here hf.choice taking.opened.i taking.opened.b p
+        (digest s.hash tx fst.input hf.here.output.script fst.spends.output.value) hf.compiled hf.stands taking.opened.is_branch part honest
+        (taking.signed p part) in
         bc.authorised asks fst.number here_held
 
     taken_steps : Licensed s e (branch_steps g (people_at s h.contract) fst.number taking.opened.i (Some taking.opened.b))

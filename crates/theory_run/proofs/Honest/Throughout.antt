@@ -31,7 +31,8 @@ pub record KeptHonest (s : Setup) (z : List (List ℕ)) (before : List Record) (
   pub leave : KeptLeave s before g w
 
 module _ (s : Setup) (setup : IsSetup s) (z : List (List ℕ)) (before : List Record) (g : Configuration) (w : World) (kept : KeptHonest s z before g w)
-    (e : Event) (is : IsEvent s e) (calm : collision s.hash w.hashed (pending s w e).hashes ≡ None) (unguessed : guess s w.posted (pending s w e).posts (pending s w e).allowed ≡ None) (begins : Begins z (applied w (pending s w e)).posted) where
+    (e : Event) (is : IsEvent s e) (calm : collision s.hash w.hashed (pending s w e).hashes ≡ None)
+    (unguessed : guess s w.posted (pending s w e).posts (pending s w e).allowed ≡ None) (begins : Begins z (applied w (pending s w e)).posted) where
   pub honest_after : KeptHonest s z (before ++ record_of e (pending s w e) ∷ [])
       (after_steps g (steps_of s z g w (applied w (pending s w e)) e (pending s w e))) (applied w (pending s w e))
   honest_after =
@@ -43,7 +44,9 @@ module _ (s : Setup) (setup : IsSetup s) (z : List (List ℕ)) (before : List Re
       }
 
   pub left_with_leave : SpendsWithLeave s before w (record_of e (pending s w e)) (applied w (pending s w e))
-  left_with_leave = let books = kept.run.books in leave_of_event s setup before g w books.book (fits s setup g w books) (checks s setup g w books) kept.leave books.clear e is calm
+  left_with_leave =
+      let books = kept.run.books in
+      leave_of_event s setup before g w books.book (fits s setup g w books) (checks s setup g w books) kept.leave books.clear e is calm
 
   by_own_event : Licensed s e (steps_of s z g w (applied w (pending s w e)) e (pending s w e))
   by_own_event =
@@ -75,8 +78,12 @@ keeps_licence s setup z = record {
 
 -- an honest party's live deposit goes only with its leave
 pub honest_deposits : HonestDepositsTheorem
-honest_deposits s es run = let z = run_posts s es in holds_throughout s (spends_with_leave s) (KeptHonest s z) es (keeps_leave s run.setup z) run.events (opening_honest s es run z)
+honest_deposits s es run =
+    let z = run_posts s es in
+    holds_throughout s (spends_with_leave s) (KeptHonest s z) es (keeps_leave s run.setup z) run.events (opening_honest s es run z)
 
 -- honest parties authorise only by their own events
 pub licence : LicenceTheorem
-licence s es run = let z = run_posts s es in holds_throughout s (licensed s) (KeptHonest s z) es (keeps_licence s run.setup z) run.events (opening_honest s es run z)
+licence s es run =
+    let z = run_posts s es in
+    holds_throughout s (licensed s) (KeptHonest s z) es (keeps_licence s run.setup z) run.events (opening_honest s es run z)

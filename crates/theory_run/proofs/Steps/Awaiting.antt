@@ -121,7 +121,10 @@ legal_asks : (c : Configuration) (n i : ℕ) (active : ActiveContract) (b : term
 legal_asks c n i active b ea eb [] xs h = tt
 legal_asks c n i active b ea eb (p ∷ ps) xs h =
     let q = and_parts (is_among p (asks b)) (list_all (λ r. is_among r (asks b)) ps) h in
-    let row : AllTrue (auth_branch_premises p (active_at c.active n) (branch_at c n i)) = (ap is_some ea, (ap is_some eb, (ap (λ o. is_among p (asks_of o)) eb ∙ q.0, tt))) in
+    let row : AllTrue (auth_branch_premises p (active_at c.active n) (branch_at c n i)) = (
+      ap is_some ea,
+      (ap is_some eb, (ap (λ o. is_among p (asks_of o)) eb ∙ q.0, tt)),
+    ) in
     (passes (record c { branch_authorised = xs }) (auth_branch n i p) row, legal_asks c n i active b ea eb ps (with_branch xs p n i) q.1)
 
 -- the authorisations of a branch are legal

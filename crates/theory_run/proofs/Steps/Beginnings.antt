@@ -150,7 +150,9 @@ module _ (s : Setup) (g : Configuration) (w : World) (kept : KeptBook s g w) (ch
   at = ap (λ cs. slice_get cs k) con.contracts ∙ advert_is
 
   promised : have_promised w k (participants ad) ≡ true
-  promised = let ci = compiled_is s w k st is.compiled in subst (λ (a : Advert). have_promised w k (participants a) ≡ true) (ap (λ (y : Instance). y.advert) (sym ci.is)) ci.promised
+  promised =
+      let ci = compiled_is s w k st is.compiled in
+      subst (λ (a : Advert). have_promised w k (participants a) ≡ true) (ap (λ (y : Instance). y.advert) (sym ci.is)) ci.promised
 
   all_committed : is_committed c k (Some ad) ≡ true
   all_committed = committed_same s z w c committed k (participants ad) ∙ promised
@@ -174,7 +176,8 @@ module _ (s : Setup) (g : Configuration) (w : World) (kept : KeptBook s g w) (ch
   init_ok [] h = tt
   init_ok (d ∷ ds) h =
       let i = h d (inl refl) in
-      let t = all_among (λ x. is_there c.deposits (look_up x (bindings_of c.advertised k))) (persistent_names ad.pre) (d.0) there (in_named (persistent ad.pre) d i) in
+      let t = all_among (λ x. is_there c.deposits (look_up x (bindings_of c.advertised k)))
+      (persistent_names ad.pre) (d.0) there (in_named (persistent ad.pre) d i) in
       (subst (λ o. AllTrue (auth_init_premises c k (d.1).owner (d.0) o)) (sym at) (all_committed, (owned d i, (t, tt))), init_ok ds (λ e j. h e (inr j)))
 
   abbrev awaited : List (List ℕ × Holding)
@@ -192,7 +195,9 @@ module _ (s : Setup) (g : Configuration) (w : World) (kept : KeptBook s g w) (ch
 
   pub legal_begin : Legal c (begin_steps s c k)
   legal_begin =
-      let first : Legal c (auth_inits k awaited) = legal_inits c k awaited c.init_authorised (init_ok awaited (λ d i. in_filter (λ e. not (is_init_authorised c.init_authorised k (e.0))) d (persistent ad.pre) i)) in
+      let first : Legal c (auth_inits k awaited) =
+      legal_inits c k awaited c.init_authorised
+      (init_ok awaited (λ d i. in_filter (λ e. not (is_init_authorised c.init_authorised k (e.0))) d (persistent ad.pre) i)) in
       let last : Legal mid (steps.Init k ∷ []) = (passes mid (steps.Init k) init_fine, tt) in
       subst (Legal c) (sym steps_are) (legal_append c (auth_inits k awaited) (steps.Init k ∷ []) first
       (subst (λ d. Legal d (steps.Init k ∷ [])) (sym (after-inits k awaited c)) last))
@@ -205,7 +210,8 @@ module _ (s : Setup) (g : Configuration) (w : World) (kept : KeptBook s g w) (ch
       ≡ begun (record c { init_authorised = init_all c.init_authorised k (unauthorised c k (persistent is.instance.advert.pre)) }) k
       (Some is.instance.advert) spent
   ends_begin =
-      let numbers : numbers_of (bindings_of c.advertised k) (persistent_names ad.pre) ≡ spent = ap (λ bs. numbers_of bs (persistent_names ad.pre)) bindings_are ∙ bound.numbers in
+      let numbers : numbers_of (bindings_of c.advertised k) (persistent_names ad.pre) ≡ spent =
+      ap (λ bs. numbers_of bs (persistent_names ad.pre)) bindings_are ∙ bound.numbers in
       ap (after_steps c) steps_are ∙ after-append c (auth_inits k awaited) (steps.Init k ∷ []) ∙ ap (λ d. effect d (steps.Init k)) (after-inits k awaited c)
       ∙ ap (λ o. begun mid k o (numbers_of (bindings_of c.advertised k) (persistent_names (pre_of o)))) at ∙ ap (begun mid k (Some ad)) numbers
 

@@ -101,12 +101,16 @@ module _ (s : Setup) (size : HashesBytes s.hash) (few_contracts : length s.contr
 
     first_input : bare_input fst.input ≡ bare_input (input_of t.fine.here.output)
     first_input =
-        let e : map bare_input (fst.input ∷ fst.inputs) ≡ map bare_input (map input_of (t.fine.here.output ∷ put_deposits s.hash st (core_puts (core b)))) = ap (map bare_input) (sym fst.inputs_is) ∙ ap (λ (y : Tx). y.inputs) t.is in
+        let e : map bare_input (fst.input ∷ fst.inputs)
+        ≡ map bare_input (map input_of (t.fine.here.output ∷ put_deposits s.hash st (core_puts (core b)))) =
+        ap (map bare_input) (sym fst.inputs_is) ∙ ap (λ (y : Tx). y.inputs) t.is in
         cc
 
     later_inputs : map bare_input fst.inputs ≡ map bare_input (map input_of (put_deposits s.hash st (core_puts (core b))))
     later_inputs =
-        let e : map bare_input (fst.input ∷ fst.inputs) ≡ map bare_input (map input_of (t.fine.here.output ∷ put_deposits s.hash st (core_puts (core b)))) = ap (map bare_input) (sym fst.inputs_is) ∙ ap (λ (y : Tx). y.inputs) t.is in
+        let e : map bare_input (fst.input ∷ fst.inputs)
+        ≡ map bare_input (map input_of (t.fine.here.output ∷ put_deposits s.hash st (core_puts (core b)))) =
+        ap (map bare_input) (sym fst.inputs_is) ∙ ap (λ (y : Tx). y.inputs) t.is in
         cc
 
     pub lock_done : nat_le (lock t.branch) c.time ≡ true
@@ -144,7 +148,8 @@ module _ (s : Setup) (size : HashesBytes s.hash) (few_contracts : length s.contr
 
     later_spent : AllSpent s w tx fst.numbers fst.inputs
     later_spent =
-        let a : AllSpent s w tx (n ∷ fst.numbers) (fst.input ∷ fst.inputs) = subst (λ ns. AllSpent s w tx ns (fst.input ∷ fst.inputs)) fst.spent_is (subst (AllSpent s w tx spent) fst.inputs_is acc.spends) in
+        let a : AllSpent s w tx (n ∷ fst.numbers) (fst.input ∷ fst.inputs) =
+        subst (λ ns. AllSpent s w tx ns (fst.input ∷ fst.inputs)) fst.spent_is (subst (AllSpent s w tx spent) fst.inputs_is acc.spends) in
         a.1
 
     distinct : are_distinct fst.numbers ≡ true
@@ -192,7 +197,8 @@ module _ (s : Setup) (size : HashesBytes s.hash) (few_contracts : length s.contr
         ++ made_from (λ m. core_holds h.contract path x m) (txid s.hash tx) 0
         (core_outputs s.hash st (branch_path t.fine.here.position i) t.fine.here.output.value x)
     made_are next o x e =
-        let outs : tx.outputs ≡ core_outputs s.hash st (branch_path t.fine.here.position i) t.fine.here.output.value (core b) = ap (λ (y : Tx). y.outputs) t.is in
+        let outs : tx.outputs ≡ core_outputs s.hash st (branch_path t.fine.here.position i) t.fine.here.output.value (core b) =
+        ap (λ (y : Tx). y.outputs) t.is in
         o ∙ ap (λ os. spend_from 0 spent w.outputs ++ made_from (λ m. core_holds h.contract path (core b) m) (txid s.hash tx) 0 os) outs
         ∙ ap (λ y. spend_from 0 spent w.outputs ++ made_from (λ m. core_holds h.contract path y m) (txid s.hash tx) 0
         (core_outputs s.hash st (branch_path t.fine.here.position i) t.fine.here.output.value y)) e
@@ -203,7 +209,8 @@ module _ (s : Setup) (size : HashesBytes s.hash) (few_contracts : length s.contr
       none_put : fst.numbers ≡ []
       none_put =
           let z : core_puts (core b) ≡ [] = ap core_puts e in
-          let k : AllIn (map (volatile_entry ad.pre) (core_puts (core b))) (deposits ad.pre) = subst (λ ps. AllIn (map (volatile_entry ad.pre) ps) (deposits ad.pre)) (sym z) tt in
+          let k : AllIn (map (volatile_entry ad.pre) (core_puts (core b))) (deposits ad.pre) =
+          subst (λ ps. AllIn (map (volatile_entry ad.pre) ps) (deposits ad.pre)) (sym z) tt in
           let r = (bound_puts k).numbers in
           sym r ∙ ap (λ ps. numbers_of (bindings_at w.advertised h.contract) (names_of (map (volatile_entry ad.pre) ps))) z
 
@@ -256,7 +263,8 @@ module _ (s : Setup) (size : HashesBytes s.hash) (few_contracts : length s.contr
       none_divided : fst.numbers ≡ []
       none_divided =
           let z : core_puts (core b) ≡ [] = ap core_puts e in
-          let k : AllIn (map (volatile_entry ad.pre) (core_puts (core b))) (deposits ad.pre) = subst (λ qs. AllIn (map (volatile_entry ad.pre) qs) (deposits ad.pre)) (sym z) tt in
+          let k : AllIn (map (volatile_entry ad.pre) (core_puts (core b))) (deposits ad.pre) =
+          subst (λ qs. AllIn (map (volatile_entry ad.pre) qs) (deposits ad.pre)) (sym z) tt in
           let r = (bound_puts k).numbers in
           sym r ∙ ap (λ qs. numbers_of (bindings_at w.advertised h.contract) (names_of (map (volatile_entry ad.pre) qs))) z
 

@@ -223,7 +223,8 @@ shown-more s posted x ps ys h = subst (λ o. is_shown s posted o ≡ true) (sym 
 
 module _ (s : Setup) (z : List (List ℕ)) (apart : different_secrets (all_secrets s) ≡ true) (g : Configuration) (w : World)
     (con : Constant s g) (advertised : g.advertised ≡ w.advertised) (kept : KeptSecrets s z g w)
-    (k : ℕ) (a : List ℕ) (ds : List (List ℕ × List ℕ)) (none : first_reason (commit_row s w k a ds) ≡ None) (fresh : first_reason (digest_row s w k a ds) ≡ None) where
+    (k : ℕ) (a : List ℕ) (ds : List (List ℕ × List ℕ))
+    (none : first_reason (commit_row s w k a ds) ≡ None) (fresh : first_reason (digest_row s w k a ds) ≡ None) where
   abbrev names : List (List ℕ)
   names = secrets_at s k a
 
@@ -309,7 +310,8 @@ module _ (s : Setup) (z : List (List ℕ)) (apart : different_secrets (all_secre
         let dl : look_up x.secret (own_digests s a names) ≡ Some d = rw ha at l.0 in
         let e : Some (s.hash (bytes_or_none (held_secret s a x.secret))) ≡ Some d = sym own ∙ dl in
         let there = heard (bytes_or_none (held_secret s a x.secret)) (rw ha (own_heard s a x.secret names l.1)) in
-        let one = own_one s next.hashed (held_secret s a x.secret) (all_among (λ m. is_some (held_secret s a m)) names x.secret (held ha) l.1) (all_among (λ m. is_secret_long (bytes_or_none (held_secret s a m))) names x.secret (long ha) l.1)
+        let one = own_one s next.hashed (held_secret s a x.secret) (all_among (λ m. is_some (held_secret s a m)) names x.secret (held ha) l.1)
+        (all_among (λ m. is_secret_long (bytes_or_none (held_secret s a m))) names x.secret (long ha) l.1)
         (rw eh (all_new w.hashed hs _ there)) in
         subst (λ b. is_own s next.hashed (held_secret s b x.secret) (Some d) ≡ true) (sym n.1)
         (subst (λ o. is_own s next.hashed (held_secret s a x.secret) o ≡ true) e one)
@@ -333,7 +335,11 @@ module _ (s : Setup) (z : List (List ℕ)) (apart : different_secrets (all_secre
             let n = new_at promise x d q in
             let l = look_new x.secret d n.2 in
             let i = in_all s k a x.secret l.1 in
-            let e : record { contract = k; party = a; secret = x.secret } ≡ x = let f = sym n.0 in let h' = sym n.1 in λ j. record { contract = f j; party = h' j; secret = x.secret } in
+            let e : record { contract = k; party = a; secret = x.secret } ≡ x = let f = sym n.0 in let h' = sym n.1 in λ j. record {
+              contract = f j;
+              party = h' j;
+              secret = x.secret;
+            } in
             subst (λ y. has_secret y (all_secrets s) ≡ true) e i
 
         by_value : (r : Option (List ℕ)) → digest_at (w.promises ++ promise ∷ []) x ≡ r → is_some r ≡ true → has_secret x (all_secrets s) ≡ true
@@ -363,7 +369,9 @@ module _ (s : Setup) (z : List (List ℕ)) (apart : different_secrets (all_secre
             let u = and_parts (k == x.contract) (bytes_eq a x.party) t in
             let ec = eqb-true k x.contract u.0 in
             let ea = bytes-true a x.party u.1 in
-            let j : is_among x.secret names ≡ true = subst (λ c. is_among x.secret (secrets_at s c a) ≡ true) (sym ec) (subst (λ b. is_among x.secret (secrets_at s x.contract b) ≡ true) (sym ea) i) in
+            let j : is_among x.secret names ≡ true =
+            subst (λ c. is_among x.secret (secrets_at s c a) ≡ true)
+            (sym ec) (subst (λ b. is_among x.secret (secrets_at s x.contract b) ≡ true) (sym ea) i) in
             ap is_some (digest_skip w.promises promise x e) ∙ rw t (arranged-some names digests x.secret j)
 
     abbrev mid : Configuration
@@ -398,7 +406,8 @@ module _ (s : Setup) (z : List (List ℕ)) (apart : different_secrets (all_secre
         new_one d q v =
             let o = is_own-some s next.hashed (held_secret s x.party x.secret) (Some d) (own_new x d honest q) refl in
             let e : d ≡ s.hash o.secret = let u = o.digest in cc in
-            let there = posted_own s o.secret o.long next.hashed w.posted clear' (λ u i. heard' u (rw same_posted i)) o.heard (subst (λ y. is_shown s w.posted (Some y) ≡ true) e v) in
+            let there = posted_own s o.secret o.long next.hashed w.posted clear'
+            (λ u i. heard' u (rw same_posted i)) o.heard (subst (λ y. is_shown s w.posted (Some y) ≡ true) e v) in
             let used = kept.early x.party x.secret o.secret o.own there in
             let n = new_at promise x d q in
             both_ways _ (not_before (used_digests w.promises) digests x.secret d unused (look_new x.secret d n.2).0)

@@ -65,15 +65,18 @@ module _ (s : Setup) (size : HashesBytes s.hash) (few_contracts : length s.contr
         let ad = st.advert in
         let there : slice_get s.contracts h.contract ≡ Some ad = ci.there ∙ ap (λ (y : Instance). Some y.advert) (sym ci.is) in
         let well = check.checked h.contract st t.fine.compiled in
-        let promised : have_promised next h.contract (participants ad) ≡ true = subst (λ (y : Instance). have_promised next h.contract (participants y.advert) ≡ true) (sym ci.is) (have_same promises ci.advert ci.promised) in
+        let promised : have_promised next h.contract (participants ad) ≡ true =
+        subst (λ (y : Instance). have_promised next h.contract (participants y.advert) ≡ true) (sym ci.is) (have_same promises ci.advert ci.promised) in
         let root = term_choice s.hash st h.position t.fine.here t.fine.choice t.fine.stands in
-        let hashes : st.hashes ≡ digests_at next.promises h.contract = ap (λ (y : Instance). y.hashes) ci.is ∙ ap (λ ps. digests_at ps h.contract) (sym promises) in
+        let hashes : st.hashes ≡ digests_at next.promises h.contract =
+        ap (λ (y : Instance). y.hashes) ci.is ∙ ap (λ ps. digests_at ps h.contract) (sym promises) in
         let f : are_secrets s.hash op.strings (map (digest_of (digests_at next.promises h.contract)) (reveals_of (core t.branch))) ≡ true =
         subst (λ b. are_secrets s.hash op.strings (map (digest_of (digests_at next.promises h.contract)) (reveals_of (core b))) ≡ true) same
         (subst (λ ds. are_secrets s.hash op.strings (map (digest_of ds) (reveals_of (core op.b))) ≡ true) hashes op.fits) in
         let on_stack : (u : List ℕ) → is_among u op.strings ≡ true → is_among u next.posted ≡ true =
         λ u k. posts u (ap (is_among u) op.is_stack ∙ among_right u op.selectors (op.strings ++ op.signatures) (among_left u op.strings op.signatures k)) in
-        let r = all_revealed s z c next secrets begins named h.contract ad there well promised (reveals_of (core t.branch)) op.strings (reveals_known ad well h.position t.fine.choice root t.index t.branch t.there) f on_stack in
+        let r = all_revealed s z c next secrets begins named h.contract ad there well promised
+        (reveals_of (core t.branch)) op.strings (reveals_known ad well h.position t.fine.choice root t.index t.branch t.there) f on_stack in
         let p = op.predicate in
         record {
           puts_known = puts_known ad well h.position t.fine.choice root t.index t.branch t.there;
@@ -90,7 +93,9 @@ module _ (s : Setup) (size : HashesBytes s.hash) (few_contracts : length s.contr
     no_core : (x : term.Guarded) → core t.branch ≡ x
         → core_outputs s.hash t.fine.instance (branch_path t.fine.here.position t.index) t.fine.here.output.value x ≡ [] → ⊥
     no_core x e n =
-        let o : tx.outputs ≡ [] = ap (λ (y : Tx). y.outputs) t.is ∙ ap (core_outputs s.hash t.fine.instance (branch_path t.fine.here.position t.index) t.fine.here.output.value) e ∙ n in
+        let o : tx.outputs ≡ [] =
+        ap (λ (y : Tx). y.outputs) t.is
+        ∙ ap (core_outputs s.hash t.fine.instance (branch_path t.fine.here.position t.index) t.fine.here.output.value) e ∙ n in
         let m : not true ≡ true = subst (λ os. not (length os == 0) ≡ true) o acc.makes in
         cc
 

@@ -49,7 +49,8 @@ module _ (s : Setup) (g : Configuration) (w : World) (kept : KeptBook s g w) whe
       by_live false p e = refl
       by_live true (Some h) e =
           let hf = kept.held n o h there e in
-          let c : compiled_outpoint s (compiled_instance s w h.contract) h.position ≡ Some hf.here.output.outpoint = ap (λ x. compiled_outpoint s x h.position) hf.compiled ∙ ap (option_map (λ (p : Standing × Contract). p.0.output.outpoint)) hf.stands in
+          let c : compiled_outpoint s (compiled_instance s w h.contract) h.position ≡ Some hf.here.output.outpoint =
+          ap (λ x. compiled_outpoint s x h.position) hf.compiled ∙ ap (option_map (λ (p : Standing × Contract). p.0.output.outpoint)) hf.stands in
           ap (is_outpoint o.outpoint) c ∙ subst (λ p. same_outpoint o.outpoint p ≡ true) hf.outpoint (place_refl o.outpoint)
 
   each_placed : (os : List Output) → ((n : ℕ) (o : Output) → slice_get os n ≡ Some o → is_placed s w o ≡ true) → list_all (is_placed s w) os ≡ true

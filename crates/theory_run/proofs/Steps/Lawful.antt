@@ -119,7 +119,16 @@ module _ (s : Setup) (size : HashesBytes s.hash) (few_contracts : length s.contr
         let can = can_move e in
         record {
           legal = legal_move s c w money tx spent can;
-          frame = subst (StepFrame c) (sym (ends-move s c w money tx spent can)) (record { advertised = refl; committed = refl; revealed = refl; parties = refl; honest = refl; contracts = refl; inits = λ k x h. h; asked = λ n i a h. h });
+          frame = subst (StepFrame c) (sym (ends-move s c w money tx spent can)) (record {
+            advertised = refl;
+            committed = refl;
+            revealed = refl;
+            parties = refl;
+            honest = refl;
+            contracts = refl;
+            inits = λ k x h. h;
+            asked = λ n i a h. h;
+          });
           agrees = λ next tips outs. agree_move s c w money tx spent can next tips outs;
         }
 
@@ -138,13 +147,16 @@ module _ (s : Setup) (size : HashesBytes s.hash) (few_contracts : length s.contr
             agrees = λ next tips outs. agree_begin s g w kept check tx spent acc z c con money advertised committed k is next tips outs;
           }
 
-      lawful_branch : (h : ContractPosition) (e : fst.spends.output.holds ≡ Some h) → (let t = first_taking s size few_contracts g w kept fit check hs clear sub tx fits spent acc all h e in IsLawful (Takes h fst.number t.index))
+      lawful_branch : (h : ContractPosition) (e : fst.spends.output.holds ≡ Some h)
+          → (let t = first_taking s size few_contracts g w kept fit check hs clear sub tx fits spent acc all h e in IsLawful (Takes h fst.number t.index))
       lawful_branch h e =
           let t = first_taking s size few_contracts g w kept fit check hs clear sub tx fits spent acc all h e in
           let o = has_opened h e in
           let up : (u : List ℕ) → is_among u (reverse (verdict.items_of fst.input.witness)) ≡ true → is_among u after_it.posted ≡ true =
-          λ u k. posts u (subst (λ xs. is_among u (flat_map (λ (i : TxIn). i.witness) xs) ≡ true) (sym fst.inputs_is) (first_strings (λ (i : TxIn). i.witness) fst.input fst.inputs u (among_stack u fst.input.witness k))) in
-          let tested = tested_by s size few_contracts g w kept fit check hs clear sub tx fits spent acc all h t c con money advertised z after_it secrets begins named promises o.valid (reverse (verdict.items_of fst.input.witness)) o.opens o.same up in
+          λ u k. posts u (subst (λ xs. is_among u (flat_map (λ (i : TxIn). i.witness) xs) ≡ true)
+          (sym fst.inputs_is) (first_strings (λ (i : TxIn). i.witness) fst.input fst.inputs u (among_stack u fst.input.witness k))) in
+          let tested = tested_by s size few_contracts g w kept fit check hs clear sub tx fits spent acc all h t c con
+          money advertised z after_it secrets begins named promises o.valid (reverse (verdict.items_of fst.input.witness)) o.opens o.same up in
           let b = branch_taken s size few_contracts g w kept fit check hs clear sub tx fits spent acc all h t c con money advertised tested in
           let l = looked_branch s w h fst.spends.output t.fine t.index t.branch t.there in
           record {

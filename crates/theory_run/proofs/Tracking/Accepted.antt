@@ -67,7 +67,13 @@ module _ (s : Setup) (setup : IsSetup s) (z : List (List ℕ)) (apart : differen
     posts u h = among_right u w.posted (items_of tx) h
 
     money : AgreeOnMoney s g seen
-    money = record { time = tracks.money.time; next = tracks.money.next; deposits = tracks.money.deposits; active = tracks.money.active; moves = tracks.money.moves }
+    money = record {
+      time = tracks.money.time;
+      next = tracks.money.next;
+      deposits = tracks.money.deposits;
+      active = tracks.money.active;
+      moves = tracks.money.moves;
+    }
 
     abbrev few : length s.contracts ≤ 16
     few = setup.few_contracts
@@ -81,7 +87,8 @@ module _ (s : Setup) (setup : IsSetup s) (z : List (List ℕ)) (apart : differen
 
     tracks_seen : Tracks s z (after_steps g (accepted_steps s g seen next spent (Some tx))) next
     tracks_seen =
-        let frame = accepted_frame s setup.hash few g seen kept fit check heard no_more_collision within tx fits spent acc all tracks.constant money tracks.advertised z next secrets_mid begins named refl posts shows.legal in
+        let frame = accepted_frame s setup.hash few g seen kept fit check heard no_more_collision
+        within tx fits spent acc all tracks.constant money tracks.advertised z next secrets_mid begins named refl posts shows.legal in
         record {
           money = accepted_money s setup.hash few g seen kept fit check heard no_more_collision within tx fits spent acc all tracks.constant
               money tracks.advertised z next secrets_mid begins named refl posts shows.legal refl

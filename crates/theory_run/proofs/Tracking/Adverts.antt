@@ -83,7 +83,8 @@ module _ (s : Setup) (g : Configuration) (w : World) (money : AgreeOnMoney s g w
       let q = and_parts (not (is_among x names)) (are_different names) d in
       and_from _ _ (not_from_false _ (no_other x names p.0 p.1 (not-true _ q.0))) (bound_apart names q.1 p.1)
 
-module _ (s : Setup) (setup : IsSetup s) (z : List (List ℕ)) (apart : different_secrets (all_secrets s) ≡ true) (g : Configuration) (w : World) (tracks : Tracks s z g w) where
+module _ (s : Setup) (setup : IsSetup s)
+    (z : List (List ℕ)) (apart : different_secrets (all_secrets s) ≡ true) (g : Configuration) (w : World) (tracks : Tracks s z g w) where
   pub advertise_tracked : (k : ℕ) (bs : List (List ℕ × ℕ)) → Tracked s z g w (events.Advertise k bs) (advertise_pending s w k bs)
   advertise_tracked k bs =
       let adverts = w.advertised ++ record { contract = k; bindings = arranged 0 (deposit_names s k) bs } ∷ [] in
@@ -105,7 +106,17 @@ module _ (s : Setup) (setup : IsSetup s) (z : List (List ℕ)) (apart : differen
         tracks = record {
           money =
               record { time = calm.money.time; next = calm.money.next; deposits = calm.money.deposits; active = calm.money.active; moves = calm.money.moves };
-          secrets = record { lengths = calm.secrets.lengths; revealed = calm.secrets.revealed; known = calm.secrets.known; own = calm.secrets.own; clear = calm.secrets.clear; heard = calm.secrets.heard; once = calm.secrets.once; early = calm.secrets.early; full = calm.secrets.full };
+          secrets = record {
+            lengths = calm.secrets.lengths;
+            revealed = calm.secrets.revealed;
+            known = calm.secrets.known;
+            own = calm.secrets.own;
+            clear = calm.secrets.clear;
+            heard = calm.secrets.heard;
+            once = calm.secrets.once;
+            early = calm.secrets.early;
+            full = calm.secrets.full;
+          };
           constant = record { parties = calm.constant.parties; honest = calm.constant.honest; contracts = calm.constant.contracts };
           advertised = ap (λ xs. xs ++ record { contract = k; bindings = arranged 0 (deposit_names s k) bs } ∷ []) tracks.advertised;
         };
@@ -119,7 +130,10 @@ module _ (s : Setup) (setup : IsSetup s) (z : List (List ℕ)) (apart : differen
           let same : contract_at g.contracts k ≡ Some a = ap (λ cs. slice_get cs k) tracks.constant.contracts ∙ e in
           let pre_is : pre_at s k ≡ a.pre = ap pre_of e in
           let different = different_names a (contract_checked s setup k a e) in
-          let all : list_all (λ m. is_some (look_up m bs)) (names_of (deposits a.pre)) ≡ true = all_looked bs (names_of (deposits a.pre)) (subst (λ p. list_all (λ n. is_among n (names_of bs)) (names_of (deposits p)) ≡ true) pre_is (and_parts _ _ r).1) in
-          let each = bound_each s g w tracks.money k bs u o (deposits a.pre) all (λ d i. subst (λ p. look_up (d.0) (deposits p) ≡ Some (d.1)) (sym pre_is) (deposit_looked a.pre d different i)) in
+          let all : list_all (λ m. is_some (look_up m bs)) (names_of (deposits a.pre)) ≡ true =
+          all_looked bs (names_of (deposits a.pre))
+          (subst (λ p. list_all (λ n. is_among n (names_of bs)) (names_of (deposits p)) ≡ true) pre_is (and_parts _ _ r).1) in
+          let each = bound_each s g w tracks.money k bs u o (deposits a.pre) all
+          (λ d i. subst (λ p. look_up (d.0) (deposits p) ≡ Some (d.1)) (sym pre_is) (deposit_looked a.pre d different i)) in
           let two = bound_apart s g w tracks.money k bs u o (names_of (deposits a.pre)) (deposits_different a.pre different) all in
           rw (same, pre_is) (and_from _ _ each two)

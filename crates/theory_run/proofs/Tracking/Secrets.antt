@@ -54,7 +54,13 @@ module _ (s : Setup) (z : List (List ℕ)) (apart : different_secrets (all_secre
   posting_tracked e string allowed same permitted clear unguessed begins =
       let next = applied w (posting w string allowed) in
       let p = posted s z apart g w next (string ∷ []) (string ∷ []) allowed tracks.secrets refl refl refl clear unguessed begins (λ t h. h) permitted in
-      let money : AgreeOnMoney s g next = record { time = tracks.money.time; next = tracks.money.next; deposits = tracks.money.deposits; active = tracks.money.active; moves = tracks.money.moves } in
+      let money : AgreeOnMoney s g next = record {
+        time = tracks.money.time;
+        next = tracks.money.next;
+        deposits = tracks.money.deposits;
+        active = tracks.money.active;
+        moves = tracks.money.moves;
+      } in
       record {
         legal = subst (Legal g) (sym same) p.legal;
         tracks = subst (λ xs. Tracks s z (after_steps g xs) next) (sym same)
@@ -82,7 +88,9 @@ module _ (s : Setup) (z : List (List ℕ)) (apart : different_secrets (all_secre
       let there = tracks.secrets.full (record { contract = k; party = party; secret = name }) (not-false _ row.1.1.1.0) (not-false _ row.1.1.0) in
       posting_tracked (events.Reveal k party name) (own_secret s party name) (Some (party, name)) refl (λ a n t h o.
       let p = and_parts (bytes_eq party a) (bytes_eq name n) h in
-      let here : held_secret s party name ≡ Some t = subst (λ b. held_secret s b name ≡ Some t) (sym (bytes-true party a p.0)) (subst (λ m. held_secret s a m ≡ Some t) (sym (bytes-true name n p.1)) o) in
+      let here : held_secret s party name ≡ Some t =
+      subst (λ b. held_secret s b name ≡ Some t)
+      (sym (bytes-true party a p.0)) (subst (λ m. held_secret s a m ≡ Some t) (sym (bytes-true name n p.1)) o) in
       own_used k party name t (not-false _ row.1.0) here there))
 
   -- ---- secrets are committed
@@ -96,12 +104,19 @@ module _ (s : Setup) (z : List (List ℕ)) (apart : different_secrets (all_secre
       unless_tracked s z apart g w tracks (events.Commit k party ds) (first_reason (digest_row s w k party ds)) strings last (λ fresh clear unguessed begins.
       let next = applied w last in
       let hashes = strings ++ strings_compiled s (compiled_instance s promised k) in
-      let heard : (t : List ℕ) → is_among t strings ≡ true → is_among t hashes ≡ true = λ t h. among_left t strings (strings_compiled s (compiled_instance s promised k)) h in
+      let heard : (t : List ℕ) → is_among t strings ≡ true → is_among t hashes ≡ true =
+      λ t h. among_left t strings (strings_compiled s (compiled_instance s promised k)) h in
       let step : Step = steps.Commit k party (commit_lengths s z k party ds) in
       record {
         legal = legal_all s z apart g w tracks.constant tracks.advertised tracks.secrets k party ds none fresh hashes next refl refl refl clear heard begins;
         tracks = shown_tracks s z (effect g step) next (newly_shown s w next)
-            (record { time = tracks.money.time; next = tracks.money.next; deposits = tracks.money.deposits; active = tracks.money.active; moves = tracks.money.moves })
+            (record {
+              time = tracks.money.time;
+              next = tracks.money.next;
+              deposits = tracks.money.deposits;
+              active = tracks.money.active;
+              moves = tracks.money.moves;
+            })
             (kept_commit s z apart g w tracks.constant tracks.advertised tracks.secrets k party ds none fresh hashes next refl refl refl clear heard begins)
             (record { parties = tracks.constant.parties; honest = tracks.constant.honest; contracts = tracks.constant.contracts })
             tracks.advertised;

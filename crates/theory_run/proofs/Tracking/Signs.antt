@@ -61,8 +61,10 @@ module _ (s : Setup) (z : List (List ℕ)) (apart : different_secrets (all_secre
       ≡ true → is_among party (asked_by (position_branch s held j)) ≡ true → Legal g (steps.AuthBranch party n j ∷ [])
   authorised party n j held h b a =
       let seen = seen_active n held (slice_get w.outputs n) h in
-      let act : active_at g.active n ≡ Some (record { number = n; contract = held.contract; position = held.position; balance = seen.0 }) = ap (λ xs. active_at xs n) tracks.money.active ∙ active-at n w.outputs ∙ seen.1 in
-      let br : branch_at g n j ≡ position_branch s held j = ap (λ x. branch_of g.contracts x j) act ∙ branch_same s g.contracts held j seen.0 n tracks.constant.contracts in
+      let act : active_at g.active n ≡ Some (record { number = n; contract = held.contract; position = held.position; balance = seen.0 }) =
+      ap (λ xs. active_at xs n) tracks.money.active ∙ active-at n w.outputs ∙ seen.1 in
+      let br : branch_at g n j ≡ position_branch s held j =
+      ap (λ x. branch_of g.contracts x j) act ∙ branch_same s g.contracts held j seen.0 n tracks.constant.contracts in
       let asks_same : asks_of (branch_at g n j) ≡ asked_by (position_branch s held j) = ap asks_of br ∙ same_asks (position_branch s held j) in
       (passes g (steps.AuthBranch party n j) (ap is_some act, (ap is_some br ∙ b, (ap (is_among party) asks_same ∙ a, tt))), tt)
     where
@@ -100,7 +102,9 @@ module _ (s : Setup) (z : List (List ℕ)) (apart : different_secrets (all_secre
       at = ap (λ cs. slice_get cs k) tracks.constant.contracts ∙ advert_is
 
       promised : have_promised w k (participants ad) ≡ true
-      promised = let ci = compiled_is s w k st compiled in subst (λ (a : Advert). have_promised w k (participants a) ≡ true) (ap (λ (y : Instance). y.advert) (sym ci.is)) ci.promised
+      promised =
+          let ci = compiled_is s w k st compiled in
+          subst (λ (a : Advert). have_promised w k (participants a) ≡ true) (ap (λ (y : Instance). y.advert) (sym ci.is)) ci.promised
 
       all_committed : is_committed g k (Some ad) ≡ true
       all_committed = committed_same s z w g tracks.secrets.lengths k (participants ad) ∙ promised
@@ -127,7 +131,8 @@ module _ (s : Setup) (z : List (List ℕ)) (apart : different_secrets (all_secre
       legal_init =
           let test = λ (d : List ℕ × Holding). is_of_party party d && is_bound_live w k d in
           let mine : List (List ℕ × Holding) = filter test (persistent ad.pre) in
-          let ok = init_ok mine (λ d i. let p = in_filter test (persistent ad.pre) d i in (p.0, (and_parts (is_of_party party d) (is_bound_live w k d) p.1).1)) in
+          let ok = init_ok mine (λ d i. let p = in_filter test (persistent ad.pre) d i in
+          (p.0, (and_parts (is_of_party party d) (is_bound_live w k d) p.1).1)) in
           subst (λ o. Legal g (auth_inits k (filter test (persistent (pre_of o))))) (sym advert_is) (legal_inits g k mine g.init_authorised ok)
 
     pub init_tracked : Tracked s z g w (events.Init k party) (init_pending s w k party)

@@ -93,7 +93,8 @@ module _ (hash : List ℕ → List ℕ) (size : HashesBytes hash) (st : Instance
       → length (flat_map output_bytes (tx_of (branch_unsigned hash st here i b)).outputs) < 2 ^ 32
   branch_size here i b readable =
       let n = outputs_few (branch_path here.position i) here.output.value (core b) (core_readable b readable) in
-      let l = short_bytes (core_outputs hash st (branch_path here.position i) here.output.value (core b)) (outputs_short (branch_path here.position i) here.output.value (core b)) in
+      let l = short_bytes (core_outputs hash st (branch_path here.position i) here.output.value (core b))
+      (outputs_short (branch_path here.position i) here.output.value (core b)) in
       omega (arith, n, l)
 
   -- the transaction of a readable branch whose puts lie at places, and are few
@@ -110,7 +111,10 @@ module _ (hash : List ℕ → List ℕ) (size : HashesBytes hash) (st : Instance
         version = omega arith;
         some = omega arith;
         few_inputs = omega (arith, n, few);
-        inputs = inputs_fit (here.output ∷ put_deposits hash st (puts_of (core b))) (λ x j. elim j [ inl e ↦ subst (λ (y : Spent). IsPlace y.outpoint) (sym e) (position_place hash size st well q here choice stands) | inr k ↦ places x k ]);
+        inputs = inputs_fit (here.output ∷ put_deposits hash st (puts_of (core b))) (λ x j. elim j [
+          | inl e ↦ subst (λ (y : Spent). IsPlace y.outpoint) (sym e) (position_place hash size st well q here choice stands)
+          | inr k ↦ places x k
+        ]);
         few_outputs = let f = outputs_few (branch_path here.position i) here.output.value (core b) r in omega (arith, f);
         outputs = outputs_fit (branch_path here.position i) here.output.value (core b) r v
             (λ puts reveals test next e. position_little hash st well (q ++ To i ∷ []) _ next

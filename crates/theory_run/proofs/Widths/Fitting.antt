@@ -101,12 +101,14 @@ few_persistent (Secret party name ∷ pre) = few_persistent pre
 few_deposits : (a : Advert) → IsWellFormed a → length (persistent a.pre) ≤ 32
 few_deposits a h =
     let r = (and_parts (is_readable_pre a.pre) (nat_le a.fee max_money && is_readable_contract a.root) h.readable).0 in
-    let p = (and_parts (is_some_list a.pre && list_all is_readable_entry a.pre) (nat_le (length (deposits a.pre)) most_deposits && nat_le (length (secrets a.pre)) most_secrets) r).1 in
+    let p = (and_parts (is_some_list a.pre && list_all is_readable_entry a.pre)
+    (nat_le (length (deposits a.pre)) most_deposits && nat_le (length (secrets a.pre)) most_secrets) r).1 in
     let q = (and_parts (nat_le (length (deposits a.pre)) most_deposits) (nat_le (length (secrets a.pre)) most_secrets) p).0 in
     let l = few_persistent a.pre in
     grind (arith, nat_tests, q, l)
 
-module _ (s : Setup) (is : IsSetup s) (w : World) (adverts : (k : ℕ) → is_advertised w k ≡ true → AdvertFine s w k) (placed : (n : ℕ) (o : Output) → slice_get w.outputs n ≡ Some o → IsPlace o.outpoint) (k : ℕ) (st : Instance) (c : compiled_instance s w k ≡ Some st) where
+module _ (s : Setup) (is : IsSetup s) (w : World) (adverts : (k : ℕ) → is_advertised w k ≡ true → AdvertFine s w k) (placed : (n : ℕ) (o : Output)
+    → slice_get w.outputs n ≡ Some o → IsPlace o.outpoint) (k : ℕ) (st : Instance) (c : compiled_instance s w k ≡ Some st) where
   well : IsWellFormed st.advert
   well = compiled_checked s is w k st c
 
@@ -128,7 +130,8 @@ module _ (s : Setup) (is : IsSetup s) (w : World) (adverts : (k : ℕ) → is_ad
       let fair = (adverts k ci.advertised).fair in
       let sa : st.advert ≡ ci.advert = ap (λ (y : Instance). y.advert) ci.is in
       let pe : people_at s k ≡ participants ci.advert = ap people_of ci.there in
-      let m : is_among fair.0 (participants st.advert) ≡ true = subst (λ (y : Advert). is_among fair.0 (participants y) ≡ true) (sym sa) (subst (λ ps. is_among fair.0 ps ≡ true) pe fair.1) in
+      let m : is_among fair.0 (participants st.advert) ≡ true =
+      subst (λ (y : Advert). is_among fair.0 (participants y) ≡ true) (sym sa) (subst (λ ps. is_among fair.0 ps ≡ true) pe fair.1) in
       let d = has_deposit st.advert fair.0 well m in
       in_some (d.name, d.holding) (persistent st.advert.pre) d.there
 

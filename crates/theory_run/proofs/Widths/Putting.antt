@@ -91,17 +91,20 @@ few_volatile (Secret party name ∷ pre) = few_volatile pre
 few_names : (a : Advert) → IsWellFormed a → length (names_of (volatile a.pre)) ≤ 32
 few_names a h =
     let r = (and_parts (is_readable_pre a.pre) (nat_le a.fee max_money && is_readable_contract a.root) h.readable).0 in
-    let p = (and_parts (is_some_list a.pre && list_all is_readable_entry a.pre) (nat_le (length (deposits a.pre)) most_deposits && nat_le (length (secrets a.pre)) most_secrets) r).1 in
+    let p = (and_parts (is_some_list a.pre && list_all is_readable_entry a.pre)
+    (nat_le (length (deposits a.pre)) most_deposits && nat_le (length (secrets a.pre)) most_secrets) r).1 in
     let q = (and_parts (nat_le (length (deposits a.pre)) most_deposits) (nat_le (length (secrets a.pre)) most_secrets) p).0 in
     let l = few_volatile a.pre in
     grind (arith, nat_tests, q, l)
 
-module _ (s : Setup) (is : IsSetup s) (w : World) (adverts : (k : ℕ) → is_advertised w k ≡ true → AdvertFine s w k) (placed : (n : ℕ) (o : Output) → slice_get w.outputs n ≡ Some o → IsPlace o.outpoint) where
+module _ (s : Setup) (is : IsSetup s) (w : World) (adverts : (k : ℕ) → is_advertised w k ≡ true → AdvertFine s w k)
+    (placed : (n : ℕ) (o : Output) → slice_get w.outputs n ≡ Some o → IsPlace o.outpoint) where
   put_places : (k : ℕ) (st : Instance) (c : compiled_instance s w k ≡ Some st) (puts : List (List ℕ))
       → list_all (λ n. is_among n (names_of (volatile st.advert.pre))) puts ≡ true → (x : Spent) → Is_in x (put_deposits s.hash st puts) → IsPlace x.outpoint
   put_places k st c [] h x i = absurd i
   put_places k st c (n ∷ puts) h x (inl e) =
-      let r = volatile_named st.advert.pre n (and_parts (is_among n (names_of (volatile st.advert.pre))) (list_all (λ m. is_among m (names_of (volatile st.advert.pre))) puts) h).0 in
+      let r = volatile_named st.advert.pre n
+      (and_parts (is_among n (names_of (volatile st.advert.pre))) (list_all (λ m. is_among m (names_of (volatile st.advert.pre))) puts) h).0 in
       let p = bound_place s is w adverts placed k st c (n, r.0) r.2 in
       subst (λ (y : Spent). IsPlace y.outpoint) (sym e) p
   put_places k st c (n ∷ puts) h x (inr i) =
@@ -117,7 +120,8 @@ module _ (s : Setup) (is : IsSetup s) (w : World) (adverts : (k : ℕ) → is_ad
         let ch = term_choice s.hash st q here choice stand in
         let f = no_fault st.advert well in
         let known = puts_known st.advert well q choice ch i b there in
-        let once = (and_parts (are_different (puts_of (core b))) (are_different (reveals_of (core b))) (core_fact (λ y. are_different (puts_of y) && are_different (reveals_of y)) st.advert q choice i b f.1.1.1.0 ch there)).0 in
+        let once = (and_parts (are_different (puts_of (core b))) (are_different (reveals_of (core b)))
+        (core_fact (λ y. are_different (puts_of y) && are_different (reveals_of y)) st.advert q choice i b f.1.1.1.0 ch there)).0 in
         let n = no_more (puts_of (core b)) (names_of (volatile st.advert.pre)) once known in
         let l = few_names st.advert well in
         let m = length_map (λ name. deposit s.hash st name (holding_or_none (look_up name (volatile st.advert.pre)))) (puts_of (core b)) in

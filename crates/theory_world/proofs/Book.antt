@@ -46,7 +46,10 @@ signed_more book (p ∷ ps) k d h = signed_more (signed book p) ps k d (one_more
 pub signed_back : (book ps : List Pair) (k d : List ℕ) → has_signed (signed_all book ps) k d ≡ true → (has_signed book k d ≡ true) ⊎ (has_signed ps k d ≡ true)
 signed_back book [] k d h = inl h
 signed_back book (p ∷ ps) k d h = elim (signed_back (signed book p) ps k d h) [
-  | inl a ↦ elim (one_back book p k d a) [ inl x ↦ inl x | inr y ↦ inr (elim (or_cases (bytes_eq p.0 k && bytes_eq p.1 d) false y) [ inl u ↦ or_left _ _ u | inr v ↦ cc ]) ]
+  | inl a ↦ elim (one_back book p k d a) [
+    | inl x ↦ inl x
+    | inr y ↦ inr (elim (or_cases (bytes_eq p.0 k && bytes_eq p.1 d) false y) [ inl u ↦ or_left _ _ u | inr v ↦ cc ])
+  ]
   | inr b ↦ inr (or_right (bytes_eq p.0 k && bytes_eq p.1 d) _ b)
 ]
 

@@ -19,7 +19,8 @@ use Rattle.theory_calculus.proofs.Members.{get_below}
 
 pub branch_readable : (c : Contract) (i : ℕ) (b : term.Guarded) → are_readable c ≡ true → slice_get (branches c) i ≡ Some b → is_readable_branch b ≡ true
 branch_readable no_branch i b h e = cc
-branch_readable (branch d c) zero b h e = let z : d ≡ b = cc in subst (λ y. is_readable_branch y ≡ true) z (and_parts (is_readable_branch d) (are_readable c) h).0
+branch_readable (branch d c) zero b h e =
+    let z : d ≡ b = cc in subst (λ y. is_readable_branch y ≡ true) z (and_parts (is_readable_branch d) (are_readable c) h).0
 branch_readable (branch d c) (suc i) b h e = branch_readable c i b (and_parts (is_readable_branch d) (are_readable c) h).1 e
 
 abbrev pub is_fine : Contract → Bool

@@ -103,7 +103,9 @@ compiled_is s w k st h = by_contract (contract_at s k) refl h
   where
     by_test : (a : Advert) → contract_at s k ≡ Some a → (b : Bool) → is_complete w k a ≡ b → (if b then Some (instance_of w k a) else None)
         ≡ Some st → IsCompiledAt s w k st
-    by_test a e true f q = let p = and_parts (is_advertised w k) (have_promised w k (participants a)) f in let z : instance_of w k a ≡ st = cc in record { advert = a; there = e; advertised = p.0; promised = p.1; is = sym z }
+    by_test a e true f q =
+        let p = and_parts (is_advertised w k) (have_promised w k (participants a)) f in
+        let z : instance_of w k a ≡ st = cc in record { advert = a; there = e; advertised = p.0; promised = p.1; is = sym z }
     by_test a e false f q = cc
 
     by_contract : (o : Option Advert) → contract_at s k ≡ o → instance_if_complete w k o ≡ Some st → IsCompiledAt s w k st
@@ -144,10 +146,14 @@ pub compiled_stays : (s : Setup) (w next : World) (new : List Advertised) (ps : 
     → compiled_instance s w k ≡ Some st → compiled_instance s next k ≡ Some st
 compiled_stays s w next new ps k st ea ep l made other h =
     let c = compiled_is s w k st h in
-    let adv : is_advertised next k ≡ true = ap (list_any (λ a. a.contract == k)) ea ∙ any-append (λ a. a.contract == k) w.advertised new ∙ or_left _ _ c.advertised in
-    let pro : have_promised next k (participants c.advert) ≡ true = all_then (has_promised w k) (has_promised next k) (participants c.advert) (λ a i. ap (list_any (is_promise_of k a)) ep ∙ any-append (is_promise_of k a) w.promises ps ∙ or_left _ _ i) c.promised in
+    let adv : is_advertised next k ≡ true =
+    ap (list_any (λ a. a.contract == k)) ea ∙ any-append (λ a. a.contract == k) w.advertised new ∙ or_left _ _ c.advertised in
+    let pro : have_promised next k (participants c.advert) ≡ true =
+    all_then (has_promised w k) (has_promised next k) (participants c.advert)
+    (λ a i. ap (list_any (is_promise_of k a)) ep ∙ any-append (is_promise_of k a) w.promises ps ∙ or_left _ _ i) c.promised in
     let b : bindings_at next.advertised k ≡ bindings_at w.advertised k = ap (λ xs. bindings_at xs k) ea ∙ bindings-more w.advertised new k c.advertised in
-    let pl : bound_outpoints next (bindings_at next.advertised k) ≡ bound_outpoints w (bindings_at w.advertised k) = ap (bound_outpoints next) b ∙ places-last w next (bindings_at w.advertised k) l made in
+    let pl : bound_outpoints next (bindings_at next.advertised k) ≡ bound_outpoints w (bindings_at w.advertised k) =
+    ap (bound_outpoints next) b ∙ places-last w next (bindings_at w.advertised k) l made in
     let d : digests_at next.promises k ≡ digests_at w.promises k = ap (λ xs. digests_at xs k) ep ∙ digests-other w.promises ps k other in
     let e : instance_of next k c.advert ≡ instance_of w k c.advert = λ i. record { contract = k; advert = c.advert; bound = pl i; hashes = d i } in
     compiled_from s next k c.advert c.there adv pro ∙ ap Some (e ∙ sym c.is)

@@ -93,7 +93,9 @@ new_at p x d h = by_test (is_promise_of x.contract x.party p) refl h
   where
     by_test : (b : Bool) → is_promise_of x.contract x.party p ≡ b → (if b then look_up x.secret p.digests else None) ≡ Some d
         → (x.contract ≡ p.contract) × (x.party ≡ p.party) × (look_up x.secret p.digests ≡ Some d)
-    by_test true e k = let a = and_parts (p.contract == x.contract) (bytes_eq p.party x.party) e in (sym (eqb-true _ _ a.0), sym (bytes-true p.party x.party a.1), k)
+    by_test true e k =
+        let a = and_parts (p.contract == x.contract) (bytes_eq p.party x.party) e in
+        (sym (eqb-true _ _ a.0), sym (bytes-true p.party x.party a.1), k)
     by_test false e k = cc
 
 -- a commitment whose look-ups are those of digests that weren't used
@@ -104,7 +106,8 @@ once_push ps p ds o r f = record { one = λ x y d h k. by_case x y d (at_push ps
     fresh : (x : Revealed) (d : List ℕ) → digest_at (p ∷ []) x ≡ Some d → is_among d (used_digests ps) ≡ false
     fresh x d h = not_before (used_digests ps) ds x.secret d r (f x.secret d (new_at p x d h).2)
 
-    by_case : (x y : Revealed) (d : List ℕ) → (digest_at ps x ≡ Some d) ⊎ (digest_at (p ∷ []) x ≡ Some d) → (digest_at ps y ≡ Some d) ⊎ (digest_at (p ∷ []) y ≡ Some d) → x ≡ y
+    by_case : (x y : Revealed) (d : List ℕ)
+        → (digest_at ps x ≡ Some d) ⊎ (digest_at (p ∷ []) x ≡ Some d) → (digest_at ps y ≡ Some d) ⊎ (digest_at (p ∷ []) y ≡ Some d) → x ≡ y
     by_case x y d (inl a) (inl b) = o.one x y d a b
     by_case x y d (inl a) (inr b) = absurd (both_ways _ (fresh y d b) (at_used ps x d a))
     by_case x y d (inr a) (inl b) = absurd (both_ways _ (fresh x d a) (at_used ps y d b))

@@ -50,7 +50,11 @@ branch_new given p o j = by_test (has_branch_authorised given o j p) refl
     by_test : (b : Bool) → has_branch_authorised given o j p ≡ b
         → has_branch_authorised (cond b given (given ++ record { party = p; output = o; branch = j } ∷ [])) o j p ≡ true
     by_test true e = e
-    by_test false e = let x = eq-eqb o o refl in let y = eq-eqb j j refl in let z = bytes_refl p in any-append _ given (record { party = p; output = o; branch = j } ∷ []) ∙ or_right (has_branch_authorised given o j p) _ (rw (x, y, z) refl)
+    by_test false e =
+        let x = eq-eqb o o refl in
+        let y = eq-eqb j j refl in
+        let z = bytes_refl p in
+        any-append _ given (record { party = p; output = o; branch = j } ∷ []) ∙ or_right (has_branch_authorised given o j p) _ (rw (x, y, z) refl)
 
 -- ---- all steps
 

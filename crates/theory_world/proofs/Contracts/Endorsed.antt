@@ -72,7 +72,8 @@ need_of_pair party (n ∷ ns) k d h = by_test (bytes_eq n.party party) refl h (�
         → (has_signed (pairs_of_party party ns) k d ≡ true → (m : Need) × Is_in m ns × (m.party ≡ party) × (m.key ≡ k) × (m.digest ≡ d))
         → (m : Need) × Is_in m (n ∷ ns) × (m.party ≡ party) × (m.key ≡ k) × (m.digest ≡ d)
     by_test true e x ih = elim (or_cases (bytes_eq n.key k && bytes_eq n.digest d) (has_signed (pairs_of_party party ns) k d) x) [
-      | inl u ↦ (let p = and_parts (bytes_eq n.key k) (bytes_eq n.digest d) u in (n, inl refl, bytes-true n.party party e, bytes-true n.key k p.0, bytes-true n.digest d p.1))
+      | inl u ↦ (let p = and_parts (bytes_eq n.key k) (bytes_eq n.digest d) u in
+          (n, inl refl, bytes-true n.party party e, bytes-true n.key k p.0, bytes-true n.digest d p.1))
       | inr v ↦ later (ih v)
     ]
     by_test false e x ih = later (ih x)
@@ -133,7 +134,12 @@ module _ (hash : List ℕ → List ℕ) (st : Instance) where
       → Is_in n (branch_needs hash st.contract st.advert path a.branch
       (digest_of_spent hash (tx_of (branch_unsigned hash st a.here a.index a.branch)) a.here.output)) → NeedIs n
   branch_in path d a n h =
-      let r = in_map {B = Need} (λ party. record { path = path; party = party; key = key_of hash (branch_label st.contract path party); digest = digest_of_spent hash (tx_of (branch_unsigned hash st a.here a.index a.branch)) a.here.output }) (filter (λ party. not (is_asked a.branch party)) (participants st.advert)) n h in
+      let r = in_map {B = Need} (λ party. record {
+        path = path;
+        party = party;
+        key = key_of hash (branch_label st.contract path party);
+        digest = digest_of_spent hash (tx_of (branch_unsigned hash st a.here a.index a.branch)) a.here.output;
+      }) (filter (λ party. not (is_asked a.branch party)) (participants st.advert)) n h in
       let f = in_filter (λ party. not (is_asked a.branch party)) (participants st.advert) r.0 r.1 in
       let p : n.party ≡ r.0 = ap (λ (y : Need). y.party) r.2 in
       branch_need path d a (subst (λ y. is_among y (people st) ≡ true) (sym p) (in_among (participants st.advert) r.0 f.0))

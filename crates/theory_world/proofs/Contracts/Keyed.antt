@@ -115,7 +115,8 @@ module _ (hash : List ℕ → List ℕ) (size : IsHash hash) (hs : List (List �
       → (s.contract ≡ t.contract) × (q ≡ r)
   one_position s t q r script a b ia ib ha hb =
       let e : a.ops ≡ b.ops = same_some a.ops b.ops (sym a.spells ∙ b.spells) in
-      let k = same_some (key_of hash (branch_label s.contract (q ++ To 0 ∷ []) a.person)) (key_of hash (branch_label t.contract (r ++ To 0 ∷ []) b.person)) (sym a.first ∙ ap first_key e ∙ b.first) in
+      let k = same_some (key_of hash (branch_label s.contract (q ++ To 0 ∷ []) a.person))
+      (key_of hash (branch_label t.contract (r ++ To 0 ∷ []) b.person)) (sym a.first ∙ ap first_key e ∙ b.first) in
       let l = labels_same (branch_label s.contract (q ++ To 0 ∷ []) a.person) (branch_label t.contract (r ++ To 0 ∷ []) b.person) ia ib ha hb k in
       (ap contract_in l, append_cancel_right q r (To 0 ∷ []) (ap path_in l))
 

@@ -49,12 +49,16 @@ module _ (hash : List ℕ → List ℕ) (s : Instance) where
     where
       by_slot : (o : Option term.Guarded) → slice_get (branches choice) i ≡ o → option_map (by_path.at_branch here i) o ≡ Some st → Known st (q ++ To i ∷ [])
       by_slot None f x = cc
-      by_slot (Some b) f x = let z : by_path.at_branch here i b ≡ st = cc in subst (λ y. Known y (q ++ To i ∷ [])) z (record { position = q; choice = choice; stands = h; there = f; path_is = refl })
+      by_slot (Some b) f x =
+          let z : by_path.at_branch here i b ≡ st = cc in
+          subst (λ y. Known y (q ++ To i ∷ [])) z (record { position = q; choice = choice; stands = h; there = f; path_is = refl })
 
   continued_known : (here : Standing) (i : ℕ) (b c : term.Guarded) (p : Standing × Contract) (path : List PathStep) → core b ≡ c
       → IsBranch path here i b → continued_end hash s here i b c ≡ Some p → MadeBy path p.0 p.1
   continued_known here i b (put_reveal puts reveals test next) p path e k h =
-      let z : (let q : Standing × Contract = (continued hash s (branch_path here.position i) (branch_unsigned hash s here i b) (continued_value s here.output.value puts) next, next) in q) ≡ p = cc in
+      let z : (let q : Standing × Contract =
+      (continued hash s (branch_path here.position i) (branch_unsigned hash s here i b) (continued_value s here.output.value puts) next, next) in q) ≡ p =
+      cc in
       subst (λ (q : Standing × Contract). MadeBy path q.0 q.1) z
       (by_branch (record {
         from_here = here;
@@ -84,7 +88,16 @@ module _ (hash : List ℕ → List ℕ) (s : Instance) where
       by_slot None f x = cc
       by_slot (Some p) f x =
           let z : by_path.at_position (part_standing hash s (branch_path here.position i) (branch_unsigned hash s here i b) j p.0 p.1) p.1 ≡ st = cc in
-          subst (λ y. Known y (path ++ Into j ∷ [])) z (by_branch (record { from_here = here; index = i; branch = b; path = path; is_branch = k; number = j; outpoint = refl; shape = inr (ps, p.0, e, f, refl) }))
+          subst (λ y. Known y (path ++ Into j ∷ [])) z (by_branch (record {
+            from_here = here;
+            index = i;
+            branch = b;
+            path = path;
+            is_branch = k;
+            number = j;
+            outpoint = refl;
+            shape = inr (ps, p.0, e, f, refl);
+          }))
   part_known here i j b (auth party body) st path e k h = cc
   part_known here i j b (after height body) st path e k h = cc
 
@@ -128,7 +141,8 @@ module _ (hash : List ℕ → List ℕ) (s : Instance) where
   made_by q here choice h = by_stand (end_at hash s q) refl h
     where
       by_kind : (st : PathEnd) → Known st q → as_position hash s st ≡ Some (here, choice) → MadeBy q here choice
-      by_kind (by_path.at_position a c) k e = let z : (let p : Standing × Contract = (a, c) in p) ≡ (here, choice) = cc in subst (λ (p : Standing × Contract). MadeBy q p.0 p.1) z k
+      by_kind (by_path.at_position a c) k e =
+          let z : (let p : Standing × Contract = (a, c) in p) ≡ (here, choice) = cc in subst (λ (p : Standing × Contract). MadeBy q p.0 p.1) z k
       by_kind (by_path.at_branch a i b) k e = continued_known a i b (core b) (here, choice) q refl k e
 
       by_stand : (o : Option PathEnd) → end_at hash s q ≡ o → option_and_then (as_position hash s) o ≡ Some (here, choice) → MadeBy q here choice

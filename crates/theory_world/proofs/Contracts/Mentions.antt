@@ -68,13 +68,16 @@ core_mentions (split parts) a h = h
 branch_mentions : (c : Contract) (i : ℕ) (b : term.Guarded) (a : List ℕ) → slice_get (branches c) i ≡ Some b → is_among a (mentions b)
     ≡ true → is_among a (choice_mentions c) ≡ true
 branch_mentions no_branch i b a e h = cc
-branch_mentions (branch d c) zero b a e h = let z : d ≡ b = cc in among_left a (mentions d) (choice_mentions c) (subst (λ y. is_among a (mentions y) ≡ true) (sym z) h)
+branch_mentions (branch d c) zero b a e h =
+    let z : d ≡ b = cc in among_left a (mentions d) (choice_mentions c) (subst (λ y. is_among a (mentions y) ≡ true) (sym z) h)
 branch_mentions (branch d c) (suc i) b a e h = among_right a (mentions d) (choice_mentions c) (branch_mentions c i b a e h)
 
 part_mentions : (ps : Parts) (k : ℕ) (p : ℕ × Contract) (a : List ℕ) → slice_get (parts_list ps) k ≡ Some p
     → is_among a (choice_mentions p.1) ≡ true → is_among a (parts_mentions ps) ≡ true
 part_mentions no_part k p a e h = cc
-part_mentions (part v c ps) zero p a e h = let z : (let q : ℕ × Contract = (v, c) in q) ≡ p = cc in among_left a (choice_mentions c) (parts_mentions ps) (subst (λ (q : ℕ × Contract). is_among a (choice_mentions q.1) ≡ true) (sym z) h)
+part_mentions (part v c ps) zero p a e h =
+    let z : (let q : ℕ × Contract = (v, c) in q) ≡ p = cc in
+    among_left a (choice_mentions c) (parts_mentions ps) (subst (λ (q : ℕ × Contract). is_among a (choice_mentions q.1) ≡ true) (sym z) h)
 part_mentions (part v c ps) (suc k) p a e h = among_right a (choice_mentions c) (parts_mentions ps) (part_mentions ps k p a e h)
 
 choice_next : (c : Contract) (i : ℕ) (sp : Subterm) (a : List ℕ) → option_map at_branch (slice_get (branches c) i) ≡ Some sp
@@ -127,10 +130,14 @@ branch_named ad path b a e h =
         → is_among a (choice_mentions ad.root) ≡ true
     by_spot None f q = cc
     by_spot (Some (position c)) f q = cc
-    by_spot (Some (at_branch d)) f q = let z : d ≡ b = cc in path_mentions path (position ad.root) (at_branch d) a f (subst (λ y. is_among a (mentions y) ≡ true) (sym z) h)
+    by_spot (Some (at_branch d)) f q =
+        let z : d ≡ b = cc in path_mentions path (position ad.root) (at_branch d) a f (subst (λ y. is_among a (mentions y) ≡ true) (sym z) h)
 
 pub asked_mentioned : (b : term.Guarded) (a : List ℕ) → is_among a (asks b) ≡ true → is_among a (mentions b) ≡ true
-asked_mentioned (auth party body) a h = elim (or_cases (bytes_eq party a) (is_among a (asks body)) h) [ inl q ↦ or_left _ _ q | inr q ↦ or_right (bytes_eq party a) _ (asked_mentioned body a q) ]
+asked_mentioned (auth party body) a h = elim (or_cases (bytes_eq party a) (is_among a (asks body)) h) [
+  | inl q ↦ or_left _ _ q
+  | inr q ↦ or_right (bytes_eq party a) _ (asked_mentioned body a q)
+]
 asked_mentioned (after height body) a h = asked_mentioned body a h
 asked_mentioned (put_reveal puts reveals test next) a h = cc
 asked_mentioned (withdraw party) a h = cc

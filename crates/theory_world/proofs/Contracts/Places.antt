@@ -38,7 +38,10 @@ module _ (hash : List ℕ → List ℕ) (size : HashesBytes hash) (st : Instance
   continued_placed : (here : Standing) (i : ℕ) (b c : term.Guarded) (p : Standing × Contract) → continued_end hash st here i b c ≡ Some p
       → IsPlace p.0.output.outpoint
   continued_placed here i b (put_reveal puts reveals test next) p h =
-      let z : (let q : Standing × Contract = (continued hash st (branch_path here.position i) (branch_unsigned hash st here i b) (continued_value st here.output.value puts) next, next) in q) ≡ p = cc in
+      let z : (let q : Standing × Contract =
+      (continued hash st (branch_path here.position i) (branch_unsigned hash st here i b) (continued_value st here.output.value puts) next, next) in q)
+      ≡ p =
+      cc in
       subst (λ (q : Standing × Contract). IsPlace q.0.output.outpoint) z (made_place (branch_unsigned hash st here i b) 0 (omega arith))
   continued_placed here i b (withdraw party) p h = cc
   continued_placed here i b (split parts) p h = cc
@@ -93,7 +96,9 @@ module _ (hash : List ℕ → List ℕ) (size : HashesBytes hash) (st : Instance
           (made_place (initial_unsigned hash st) 0 (omega arith)) e
 
       by_end : (end : PathEnd) → Placed end → as_position hash st end ≡ Some (here, choice) → IsPlace here.output.outpoint
-      by_end (by_path.at_position a c) f e = let z : (let p : Standing × Contract = (a, c) in p) ≡ (here, choice) = cc in subst (λ (p : Standing × Contract). IsPlace p.0.output.outpoint) z f
+      by_end (by_path.at_position a c) f e =
+          let z : (let p : Standing × Contract = (a, c) in p) ≡ (here, choice) = cc in
+          subst (λ (p : Standing × Contract). IsPlace p.0.output.outpoint) z f
       by_end (by_path.at_branch a i b) f e = continued_placed a i b (core b) (here, choice) e
 
       by_stand : (o : Option PathEnd) → end_at hash st q ≡ o → option_and_then (as_position hash st) o ≡ Some (here, choice) → IsPlace here.output.outpoint

@@ -105,8 +105,11 @@ module _ (hash : List ℕ → List ℕ) (s : Instance) where
       → Within (branch_transactions hash s here i (lock b) b) (path_transactions hash s) → continued_end hash s here i b c ≡ Some p
       → Within (choice_transactions hash s p.0 0 p.1) (path_transactions hash s)
   continued_covered here i b (put_reveal puts reveals test next) p e w h =
-      let d : branch_unsigned hash s here i b ≡ core_unsigned hash s here i (lock b) (put_reveal puts reveals test next) = ap (core_unsigned hash s here i (lock b)) e in
-      let z : (let q : Standing × Contract = (continued hash s (branch_path here.position i) (branch_unsigned hash s here i b) (continued_value s here.output.value puts) next, next) in q) ≡ p = cc in
+      let d : branch_unsigned hash s here i b ≡ core_unsigned hash s here i (lock b) (put_reveal puts reveals test next) =
+      ap (core_unsigned hash s here i (lock b)) e in
+      let z : (let q : Standing × Contract =
+      (continued hash s (branch_path here.position i) (branch_unsigned hash s here i b) (continued_value s here.output.value puts) next, next) in q) ≡ p =
+      cc in
       subst (λ (q : Standing × Contract). Within (choice_transactions hash s q.0 0 q.1) (path_transactions hash s)) z
       (λ x k. w x (put_within here i (lock b) b puts reveals test next e x
       (subst (λ y. Is_in x (choice_transactions hash s

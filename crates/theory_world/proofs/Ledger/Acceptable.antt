@@ -76,7 +76,8 @@ digest-with : (hash : List ℕ → List ℕ) (tx : Tx) (us : List (List (List �
 digest-with hash tx us x u script v =
     let a = preimage-bare hash (with_witnesses tx us) (record (input_of x) { witness = u }) script v in
     let b = preimage-bare hash tx (input_of x) script v in
-    let c : preimage hash (bare (with_witnesses tx us)) (input_of x) script v ≡ preimage hash (bare tx) (input_of x) script v = ap (λ t. preimage hash t (input_of x) script v) (with-bare tx us) in
+    let c : preimage hash (bare (with_witnesses tx us)) (input_of x) script v ≡ preimage hash (bare tx) (input_of x) script v =
+    ap (λ t. preimage hash t (input_of x) script v) (with-bare tx us) in
     ap (double hash) (sym a ∙ c ∙ b)
 
 length-witnessed : (is : List TxIn) (us : List (List (List ℕ))) → length (witnessed is us) ≡ length is
@@ -153,7 +154,8 @@ live_entry w apart n o h l = by_entry (at_place (live_from 0 w.outputs) o.outpoi
         let v : q.1 ≡ tx_out o = f.same ∙ ap tx_out u in
         λ j. Some (c j, v j)
 
-module _ (s : Setup) (w : World) (size : IsHash s.hash) (apart : (m n : ℕ) (o p : Output) → slice_get w.outputs m ≡ Some o → slice_get w.outputs n ≡ Some p → o.outpoint ≡ p.outpoint → m ≡ n) where
+module _ (s : Setup) (w : World) (size : IsHash s.hash)
+    (apart : (m n : ℕ) (o p : Output) → slice_get w.outputs m ≡ Some o → slice_get w.outputs n ≡ Some p → o.outpoint ≡ p.outpoint → m ≡ n) where
   live : List Entry
   live = live_from 0 w.outputs
 
@@ -174,7 +176,8 @@ module _ (s : Setup) (w : World) (size : IsHash s.hash) (apart : (m n : ℕ) (o 
         (λ j. bytes_eq (s.hash (l j)) (program_of (r.pays j))) ∙ bytes_refl (s.hash x.script) in
         let d : digest s.hash (with_witnesses tx us) i (script_of u) r.output.value ≡ digest_of_spent s.hash tx x =
         (λ j. digest s.hash (with_witnesses tx us) i (l j) (sym r.value j)) ∙ digest-with s.hash tx us x u x.script x.value in
-        let t : script_meaning s.hash (is_valid w.book (digest s.hash (with_witnesses tx us) i (script_of u) r.output.value)) (script_of u) (items_of u) ≡ true =
+        let t : script_meaning s.hash (is_valid w.book (digest s.hash (with_witnesses tx us) i (script_of u) r.output.value))
+        (script_of u) (items_of u) ≡ true =
         (λ j. script_meaning s.hash (is_valid w.book (d j)) (l j) (m j)) ∙ r.runs in
         let a : list_any is_long (items_of u) ≡ false = ap (list_any is_long) m ∙ no_long r.items r.short in
         let b : (pays_to_script r.output.script && is_filled u) ≡ true = and_from _ _ p f in
@@ -188,7 +191,8 @@ module _ (s : Setup) (w : World) (size : IsHash s.hash) (apart : (m n : ℕ) (o 
   inputs_fine tx (x ∷ xs) (u ∷ us) [] all k h = absurd h
   inputs_fine tx (x ∷ xs) (u ∷ us) (n ∷ ns) all k h =
       let e : input_refusal s.hash w.book (live_from 0 w.outputs) (with_witnesses tx all) k (record (input_of x) { witness = u }) ≡ None =
-      ap (option_and_then (λ p. first_reason (input_row s.hash w.book (with_witnesses tx all) k (record (input_of x) { witness = u }) p.1))) (here tx x u n h.0) ∙ input_fine tx x u n h.0 all k in
+      ap (option_and_then (λ p. first_reason (input_row s.hash w.book (with_witnesses tx all) k (record (input_of x) { witness = u }) p.1)))
+      (here tx x u n h.0) ∙ input_fine tx x u n h.0 all k in
       rw e (inputs_fine tx xs us ns all (k + 1) h.1)
 
   none_missing : (tx : Tx) (xs : List Spent) (us : List (List (List ℕ))) (ns : List ℕ) (k : ℕ) → AllReady s w tx xs us ns
@@ -229,7 +233,8 @@ module _ (s : Setup) (w : World) (size : IsHash s.hash) (apart : (m n : ℕ) (o 
   stand tx (x ∷ xs) [] ns h = absurd h
   stand tx (x ∷ xs) (u ∷ us) [] h = absurd h
   stand tx (x ∷ xs) (u ∷ us) (n ∷ ns) h =
-      let a : (h.0.output.live && same_outpoint x.outpoint h.0.output.outpoint) ≡ true = and_from _ _ h.0.live (subst (λ p. same_outpoint p h.0.output.outpoint ≡ true) (sym h.0.outpoint) (place_refl h.0.output.outpoint)) in
+      let a : (h.0.output.live && same_outpoint x.outpoint h.0.output.outpoint) ≡ true =
+      and_from _ _ h.0.live (subst (λ p. same_outpoint p h.0.output.outpoint ≡ true) (sym h.0.outpoint) (place_refl h.0.output.outpoint)) in
       (rw h.0.there a, stand tx xs us ns h.1)
 
   values_worth : (tx : Tx) (xs : List Spent) (us : List (List (List ℕ))) (ns : List ℕ) → AllReady s w tx xs us ns → values_at w.outputs ns ≡ worth xs
@@ -271,7 +276,8 @@ module _ (s : Setup) (w : World) (size : IsHash s.hash) (apart : (m n : ℕ) (o 
   no_repeat tx (x ∷ xs) (u ∷ us) (n ∷ ns) h d =
       let p = and_parts (not (has_number n ns)) (are_distinct ns) d in
       let a = no_place tx n h.0.output xs us ns h.0.there h.1 (not-true (has_number n ns) p.0) in
-      let b : list_any (λ (j : TxIn). same_outpoint j.prev x.outpoint) (witnessed (map input_of xs) us) ≡ false = subst (λ q. list_any (λ (j : TxIn). same_outpoint j.prev q) (witnessed (map input_of xs) us) ≡ false) (sym h.0.outpoint) a in
+      let b : list_any (λ (j : TxIn). same_outpoint j.prev x.outpoint) (witnessed (map input_of xs) us) ≡ false =
+      subst (λ q. list_any (λ (j : TxIn). same_outpoint j.prev q) (witnessed (map input_of xs) us) ≡ false) (sym h.0.outpoint) a in
       or_from _ _ b (no_repeat tx xs us ns h.1 p.1)
 
   -- all that the ledger asks of a compiled transaction
@@ -298,9 +304,12 @@ module _ (s : Setup) (w : World) (size : IsHash s.hash) (apart : (m n : ℕ) (o 
       let c2 : (length d.outputs == 0) ≡ false = ne_eqb (length d.outputs) 0 (λ e. let z = a.makes in omega (arith, z, e)) in
       let c3 = no_repeat (tx_of d) d.spends us ns a.ready a.distinct in
       let c4 : is_some (first_missing (live_from 0 w.outputs) is) ≡ false = ap is_some (none_missing (tx_of d) d.spends us ns 0 a.ready) in
-      let c5 : nat_lt max_money (total_of d.outputs) ≡ false = let x = a.money in let y = a.enough in not_less max_money (total_of d.outputs) (omega (arith, all, v, x, y)) in
-      let c6 : nat_lt (spent_total (live_from 0 w.outputs) is) (total_of d.outputs) ≡ false = let y = a.enough in not_less (spent_total (live_from 0 w.outputs) is) (total_of d.outputs) (omega (arith, t, y)) in
-      let c7 : is_not_final w.tip tx ≡ false = final d.lock is (not_less w.tip d.lock a.reached) (let x = a.reached in let y = a.height in not_less last_height d.lock (omega (arith, x, y))) in
+      let c5 : nat_lt max_money (total_of d.outputs) ≡ false =
+      let x = a.money in let y = a.enough in not_less max_money (total_of d.outputs) (omega (arith, all, v, x, y)) in
+      let c6 : nat_lt (spent_total (live_from 0 w.outputs) is) (total_of d.outputs) ≡ false =
+      let y = a.enough in not_less (spent_total (live_from 0 w.outputs) is) (total_of d.outputs) (omega (arith, t, y)) in
+      let c7 : is_not_final w.tip tx ≡ false =
+      final d.lock is (not_less w.tip d.lock a.reached) (let x = a.reached in let y = a.height in not_less last_height d.lock (omega (arith, x, y))) in
       let whole = none_reason (whole_row w.tip (live_from 0 w.outputs) tx) (c1, (c2, (c3, (c4, (c5, (c6, (c7, tt))))))) in
       let none : refusal_of s.hash w.book w.tip (live_from 0 w.outputs) tx ≡ None =
       (λ j. or_else (whole j) (inputs_refusal s.hash w.book (live_from 0 w.outputs) tx 0 is)) ∙ inputs_fine (tx_of d) d.spends us ns us 0 a.ready in

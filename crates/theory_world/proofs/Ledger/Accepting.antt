@@ -182,7 +182,9 @@ module _ (s : Setup) (w : World) (hs : List (List ℕ)) (tx : Tx) (h : HeardAll 
       let m = preimage s.hash tx i script sp.output.value in
       let strings : List (List ℕ) = script ∷ m ∷ s.hash m ∷ [] in
       let e : input_strings s.hash (live_from 0 w.outputs) tx i ≡ strings = rw (sp.filled, sp.entry) refl in
-      let up : (t : List ℕ) → is_among t strings ≡ true → is_among t hs ≡ true = λ t k. h.heard t (among_right t (txid_strings s.hash tx ++ shared_strings s.hash tx) inner (sub t (subst (λ ts. is_among t ts ≡ true) (sym e) k))) in
+      let up : (t : List ℕ) → is_among t strings ≡ true → is_among t hs ≡ true =
+      λ t k. h.heard t
+      (among_right t (txid_strings s.hash tx ++ shared_strings s.hash tx) inner (sub t (subst (λ ts. is_among t ts ≡ true) (sym e) k))) in
       record {
         script = up script (among_head script (m ∷ s.hash m ∷ []));
         signed = up m (among_tail m script (m ∷ s.hash m ∷ []) (among_head m (s.hash m ∷ [])));

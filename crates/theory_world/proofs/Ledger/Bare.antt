@@ -88,7 +88,8 @@ inputs-bare (x ∷ xs) (y ∷ ys) = ap (λ b. same_input x y && b) (inputs-bare 
 pub same_from : (a b : Tx) → bare a ≡ bare b → same_bare a b ≡ true
 same_from a b e =
     let t : same_bare (bare a) (bare b) ≡ true = subst (λ x. same_bare (bare a) x ≡ true) e (bare_refl (bare a)) in
-    let r : same_bare (bare a) (bare b) ≡ same_bare a b = ap (λ x. (a.version == b.version) && x && pointwise same_output a.outputs b.outputs && (a.lock == b.lock)) (inputs-bare a.inputs b.inputs) in
+    let r : same_bare (bare a) (bare b) ≡ same_bare a b =
+    ap (λ x. (a.version == b.version) && x && pointwise same_output a.outputs b.outputs && (a.lock == b.lock)) (inputs-bare a.inputs b.inputs) in
     sym r ∙ t
 
 -- ---- bytes
@@ -146,7 +147,8 @@ inputs_size (i ∷ is) none places =
 input-apart : (x y : TxIn) → x.script_sig ≡ [] → y.script_sig ≡ [] → IsPlace x.prev → IsPlace y.prev → x.sequence < 2 ^ 32
     → y.sequence < 2 ^ 32 → input_bytes x ≡ input_bytes y → bare_input x ≡ bare_input y
 input-apart x y nx ny px py sx sy e =
-    let r = split_right (place_bytes x.prev ++ sized x.script_sig) (place_bytes y.prev ++ sized y.script_sig) (word x.sequence) (word y.sequence) (wide32.len x.sequence ∙ sym (wide32.len y.sequence)) e in
+    let r = split_right (place_bytes x.prev ++ sized x.script_sig)
+    (place_bytes y.prev ++ sized y.script_sig) (word x.sequence) (word y.sequence) (wide32.len x.sequence ∙ sym (wide32.len y.sequence)) e in
     let q = cut (place_bytes x.prev) (place_bytes y.prev) (sized x.script_sig) (sized y.script_sig) (place-size x.prev px ∙ sym (place-size y.prev py)) r.0 in
     let a = place-apart x.prev y.prev px py q.0 in
     let b = word-apart x.sequence y.sequence sx sy r.1 in
@@ -159,7 +161,8 @@ inputs-apart [] [] nx ny px py sx sy l e = refl
 inputs-apart [] (y ∷ ys) nx ny px py sx sy l e = absurd (omega (arith, l))
 inputs-apart (x ∷ xs) [] nx ny px py sx sy l e = absurd (omega (arith, l))
 inputs-apart (x ∷ xs) (y ∷ ys) nx ny px py sx sy l e =
-    let r = cut (input_bytes x) (input_bytes y) (flat_map input_bytes xs) (flat_map input_bytes ys) (input_size x nx.0 px.0 ∙ sym (input_size y ny.0 py.0)) (sym (flat_map-cons input_bytes x xs) ∙ e ∙ flat_map-cons input_bytes y ys) in
+    let r = cut (input_bytes x) (input_bytes y) (flat_map input_bytes xs) (flat_map input_bytes ys)
+    (input_size x nx.0 px.0 ∙ sym (input_size y ny.0 py.0)) (sym (flat_map-cons input_bytes x xs) ∙ e ∙ flat_map-cons input_bytes y ys) in
     let a = input-apart x y nx.0 ny.0 px.0 py.0 sx.0 sy.0 r.0 in
     let b = inputs-apart xs ys nx.1 ny.1 px.1 py.1 sx.1 sy.1 (omega (arith, l)) r.1 in
     λ i. a i ∷ b i
@@ -186,7 +189,8 @@ outputs_size os h =
 -- transactions of the same bytes are the same but for witnesses
 pub stripped-apart : (a b : Tx) → NoScripts a.inputs → NoScripts b.inputs → IsNumbered a → IsNumbered b → stripped a ≡ stripped b → bare a ≡ bare b
 stripped-apart a b na nb fa fb e =
-    let r1 = split_right (word a.version ++ between a) (word b.version ++ between b) (word a.lock) (word b.lock) (wide32.len a.lock ∙ sym (wide32.len b.lock)) (sym (stripped_is a) ∙ e ∙ stripped_is b) in
+    let r1 = split_right (word a.version ++ between a) (word b.version ++ between b)
+    (word a.lock) (word b.lock) (wide32.len a.lock ∙ sym (wide32.len b.lock)) (sym (stripped_is a) ∙ e ∙ stripped_is b) in
     let r2 = cut (word a.version) (word b.version) (between a) (between b) (wide32.len a.version ∙ sym (wide32.len b.version)) r1.0 in
     let la = length-append (flat_map input_bytes a.inputs) (outputs_bytes a.outputs) in
     let lb = length-append (flat_map input_bytes b.inputs) (outputs_bytes b.outputs) in
@@ -198,13 +202,16 @@ stripped-apart a b na nb fa fb e =
     count-apart (length a.inputs) (length b.inputs) (length (outputs_bytes a.outputs)) (length (outputs_bytes b.outputs))
     (flat_map input_bytes a.inputs ++ outputs_bytes a.outputs) (flat_map input_bytes b.inputs ++ outputs_bytes b.outputs) r2.1
     (la ∙ ap (λ k. k + length (outputs_bytes a.outputs)) ia) (lb ∙ ap (λ k. k + length (outputs_bytes b.outputs)) ib) (omega (arith, oa)) (omega (arith, ob)) in
-    let r3 = cut (compact (length a.inputs)) (compact (length b.inputs)) (flat_map input_bytes a.inputs ++ outputs_bytes a.outputs) (flat_map input_bytes b.inputs ++ outputs_bytes b.outputs) (ap (λ k. length (compact k)) n) r2.1 in
-    let r4 = cut (flat_map input_bytes a.inputs) (flat_map input_bytes b.inputs) (outputs_bytes a.outputs) (outputs_bytes b.outputs) (ia ∙ ap (λ k. 41 * k) n ∙ sym ib) r3.1 in
+    let r3 = cut (compact (length a.inputs)) (compact (length b.inputs)) (flat_map input_bytes a.inputs ++ outputs_bytes a.outputs)
+    (flat_map input_bytes b.inputs ++ outputs_bytes b.outputs) (ap (λ k. length (compact k)) n) r2.1 in
+    let r4 = cut (flat_map input_bytes a.inputs)
+    (flat_map input_bytes b.inputs) (outputs_bytes a.outputs) (outputs_bytes b.outputs) (ia ∙ ap (λ k. 41 * k) n ∙ sym ib) r3.1 in
     let ca = few_outputs a.outputs in
     let cb = few_outputs b.outputs in
     let sa = fa.size in
     let sb = fb.size in
-    let r5 = counts_apart (length a.outputs) (length b.outputs) (flat_map output_bytes a.outputs) (flat_map output_bytes b.outputs) (omega (arith, ca, sa)) (omega (arith, cb, sb)) r4.1 in
+    let r5 = counts_apart (length a.outputs) (length b.outputs)
+    (flat_map output_bytes a.outputs) (flat_map output_bytes b.outputs) (omega (arith, ca, sa)) (omega (arith, cb, sb)) r4.1 in
     let v = word-apart a.version b.version fa.version fb.version r2.0 in
     let i = inputs-apart a.inputs b.inputs na nb fa.places fb.places fa.sequences fb.sequences n r4.0 in
     let o = all_outputs a.outputs b.outputs fa.outputs fb.outputs r5 in
@@ -218,7 +225,8 @@ none_between tx h = ap (λ is. compact (length is) ++ (flat_map input_bytes is +
 -- and none has the bytes of one without inputs
 pub inputless_apart : (a b : Tx) → a.inputs ≡ [] → 0 < length b.inputs → stripped a ≡ stripped b → ⊥
 inputless_apart a b none some e =
-    let r1 = split_right (word a.version ++ between a) (word b.version ++ between b) (word a.lock) (word b.lock) (wide32.len a.lock ∙ sym (wide32.len b.lock)) (sym (stripped_is a) ∙ e ∙ stripped_is b) in
+    let r1 = split_right (word a.version ++ between a) (word b.version ++ between b)
+    (word a.lock) (word b.lock) (wide32.len a.lock ∙ sym (wide32.len b.lock)) (sym (stripped_is a) ∙ e ∙ stripped_is b) in
     let r2 = cut (word a.version) (word b.version) (between a) (between b) (wide32.len a.version ∙ sym (wide32.len b.version)) r1.0 in
     some_count (length b.inputs) (outputs_bytes a.outputs) (flat_map input_bytes b.inputs ++ outputs_bytes b.outputs) some (sym (none_between a none) ∙ r2.1)
 
@@ -265,7 +273,14 @@ full_sequences (x ∷ xs) h = (h.0, full_sequences xs h.1)
 
 pub bare_numbered : (a b : Tx) → bare a ≡ bare b → IsNumbered b → IsNumbered a
 bare_numbered a b e h =
-    let bares : IsNumbered (bare b) = record { version = h.version; places = bare_places b.inputs h.places; sequences = bare_sequences b.inputs h.sequences; outputs = h.outputs; size = h.size; lock = h.lock } in
+    let bares : IsNumbered (bare b) = record {
+      version = h.version;
+      places = bare_places b.inputs h.places;
+      sequences = bare_sequences b.inputs h.sequences;
+      outputs = h.outputs;
+      size = h.size;
+      lock = h.lock;
+    } in
     let x = subst IsNumbered (sym e) bares in
     record {
       version = x.version;

@@ -36,12 +36,16 @@ count-apart n m p q x y h lx ly sp sq = by_forms (form_of n) (form_of m)
     by_forms (single a e) (four b b2 f) = let z = heads n 254 (compact n) (compact m) [] _ x y e f h in absurd (omega (arith, a, z))
     by_forms (single a e) (eight b f) = let z = heads n 255 (compact n) (compact m) [] _ x y e f h in absurd (omega (arith, a, z))
     by_forms (two a a2 e) (single b f) = let z = heads 253 m (compact n) (compact m) _ [] x y e f h in absurd (omega (arith, b, z))
-    by_forms (two a a2 e) (two b b2 f) = let r = width_apart w16 (2 ^ 16) wide16 253 n m (compact n) (compact m) x y e f h in sym (wide16.again n a2) ∙ ap (from_le_bytes w16) r.0 ∙ wide16.again m b2
+    by_forms (two a a2 e) (two b b2 f) =
+        let r = width_apart w16 (2 ^ 16) wide16 253 n m (compact n) (compact m) x y e f h in
+        sym (wide16.again n a2) ∙ ap (from_le_bytes w16) r.0 ∙ wide16.again m b2
     by_forms (two a a2 e) (four b b2 f) = let z = heads 253 254 (compact n) (compact m) _ _ x y e f h in absurd (omega (arith, z))
     by_forms (two a a2 e) (eight b f) = let z = heads 253 255 (compact n) (compact m) _ _ x y e f h in absurd (omega (arith, z))
     by_forms (four a a2 e) (single b f) = let z = heads 254 m (compact n) (compact m) _ [] x y e f h in absurd (omega (arith, b, z))
     by_forms (four a a2 e) (two b b2 f) = let z = heads 254 253 (compact n) (compact m) _ _ x y e f h in absurd (omega (arith, z))
-    by_forms (four a a2 e) (four b b2 f) = let r = width_apart w32 (2 ^ 32) wide32 254 n m (compact n) (compact m) x y e f h in sym (wide32.again n a2) ∙ ap (from_le_bytes w32) r.0 ∙ wide32.again m b2
+    by_forms (four a a2 e) (four b b2 f) =
+        let r = width_apart w32 (2 ^ 32) wide32 254 n m (compact n) (compact m) x y e f h in
+        sym (wide32.again n a2) ∙ ap (from_le_bytes w32) r.0 ∙ wide32.again m b2
     by_forms (four a a2 e) (eight b f) = let z = heads 254 255 (compact n) (compact m) _ _ x y e f h in absurd (omega (arith, z))
     by_forms (eight a e) (single b f) = let z = heads 255 m (compact n) (compact m) _ [] x y e f h in absurd (omega (arith, b, z))
     by_forms (eight a e) (two b b2 f) = let z = heads 255 253 (compact n) (compact m) _ _ x y e f h in absurd (omega (arith, z))

@@ -45,7 +45,15 @@ found (o ∷ os) place k q h = by_live o.live refl h (found os place (k + 1) q)
         → (at_place (live_from (k + 1) os) place ≡ Some q → IsFound os place (k + 1) q) → IsFound (o ∷ os) place k q
     by_place true e l x ih =
         let z : (k, tx_out o) ≡ q = cc in
-        record { number = 0; output = o; counted = let y = ap (λ (p : ℕ × TxOut). p.0) (sym z) in omega (arith, y); there = refl; live = l; here = e; same = ap (λ (p : ℕ × TxOut). p.1) (sym z) }
+        record {
+          number = 0;
+          output = o;
+          counted = let y = ap (λ (p : ℕ × TxOut). p.0) (sym z) in omega (arith, y);
+          there = refl;
+          live = l;
+          here = e;
+          same = ap (λ (p : ℕ × TxOut). p.1) (sym z);
+        }
     by_place false e l x ih = found-later o os place k q (ih x)
 
     by_live : (b : Bool) → o.live ≡ b → at_place (if b then (o.outpoint, (k, tx_out o)) ∷ live_from (k + 1) os else live_from (k + 1) os) place ≡ Some q

@@ -41,7 +41,8 @@ module _ {X : Type 0} (f : ℕ → Output → Option X) where
       ap (cons_option (f k x)) ih ∙ cons-append (f k x) (seen_from f (k + 1) xs) (seen_from f (k + suc (length xs)) ys)
 
   -- each is seen under its number, and nothing of what is spent
-  module _ (name : X → ℕ) (named : (k : ℕ) (o : Output) (x : X) → f k o ≡ Some x → name x ≡ k) (dead : (k : ℕ) (o : Output) → f k (record o { live = false }) ≡ None) where
+  module _ (name : X → ℕ) (named : (k : ℕ) (o : Output) (x : X) → f k o ≡ Some x → name x ≡ k)
+      (dead : (k : ℕ) (o : Output) → f k (record o { live = false }) ≡ None) where
     pub seen-spent : (k : ℕ) (ns : List ℕ) (os : List Output) → seen_from f k (spend_from k ns os)
         ≡ filter (λ x. not (has_number (name x) ns)) (seen_from f k os)
     seen-spent k ns [] = refl
@@ -98,7 +99,9 @@ active-named k o x h = by_case o.live o.holds h
   where
     by_case : (b : Bool) (p : Option ContractPosition) → active_by k o.value (if b then p else None) ≡ Some x → x.number ≡ k
     by_case true None e = cc
-    by_case true (Some p) e = let q : record { number = k; contract = p.contract; position = p.position; balance = o.value } ≡ x = cc in ap (λ (y : ActiveContract). y.number) (sym q)
+    by_case true (Some p) e =
+        let q : record { number = k; contract = p.contract; position = p.position; balance = o.value } ≡ x = cc in
+        ap (λ (y : ActiveContract). y.number) (sym q)
     by_case false p e = cc
 
 pub deposits-append : (s : Setup) (k : ℕ) (xs ys : List Output) → deposits_from s k (xs ++ ys) ≡ deposits_from s k xs ++ deposits_from s (k + length xs) ys

@@ -54,7 +54,8 @@ sequences-apart (x ∷ xs) [] h k e =
     let m = wide32.len x.sequence in
     absurd (omega (arith, n, l, m))
 sequences-apart (x ∷ xs) (y ∷ ys) h k e =
-    let r = cut (sequence_text x) (sequence_text y) (flat_map sequence_text xs) (flat_map sequence_text ys) (wide32.len x.sequence ∙ sym (wide32.len y.sequence)) (sym (flat_map-cons sequence_text x xs) ∙ e ∙ flat_map-cons sequence_text y ys) in
+    let r = cut (sequence_text x) (sequence_text y) (flat_map sequence_text xs) (flat_map sequence_text ys)
+    (wide32.len x.sequence ∙ sym (wide32.len y.sequence)) (sym (flat_map-cons sequence_text x xs) ∙ e ∙ flat_map-cons sequence_text y ys) in
     let a = word-apart x.sequence y.sequence h.0 k.0 r.0 in
     let b = sequences-apart xs ys h.1 k.1 r.1 in
     λ i. a i ∷ b i
@@ -144,7 +145,8 @@ preimage-apart hash size hs clear a b fa fb ha hb i j pi pj s t v u e =
     let r6 = cut (prefix a i) (prefix b j) (sized s) (sized t) (len a i pi ∙ sym (len b j pj)) r5.0 in
     let r7 = split_right _ _ (place_bytes i.prev) (place_bytes j.prev) (place-size i.prev pi ∙ sym (place-size j.prev pj)) r6.0 in
     let r8 = split_right _ _ (double hash (sequences_list a)) (double hash (sequences_list b)) (d (sequences_list a) (sequences_list b)) r7.0 in
-    let r9 = split_right (word a.version) (word b.version) (double hash (places_list a)) (double hash (places_list b)) (d (places_list a) (places_list b)) r8.0 in
+    let r9 = split_right (word a.version) (word b.version)
+    (double hash (places_list a)) (double hash (places_list b)) (d (places_list a) (places_list b)) r8.0 in
     let places = double-apart hash hs clear (places_list a) (places_list b) ha.places ha.places_hash hb.places hb.places_hash r9.1 in
     let sequences = double-apart hash hs clear (sequences_list a) (sequences_list b) ha.sequences ha.sequences_hash hb.sequences hb.sequences_hash r8.1 in
     let outputs = double-apart hash hs clear (outputs_list a) (outputs_list b) ha.outputs ha.outputs_hash hb.outputs hb.outputs_hash r3.1 in

@@ -50,7 +50,8 @@ spend-one k zero ns (x ∷ os) o h l a =
 spend-one k (suc n) ns (x ∷ os) o h l a =
     let z : n + (k + 1) ≡ suc n + k = omega arith in
     let b : has_number (n + (k + 1)) ns ≡ false = rw z a in
-    let ih : total_live (spend_from (k + 1) ((suc n + k) ∷ ns) os) + o.value ≡ total_live (spend_from (k + 1) ns os) = rw z at (spend-one (k + 1) n ns os o h l b) in
+    let ih : total_live (spend_from (k + 1) ((suc n + k) ∷ ns) os) + o.value ≡ total_live (spend_from (k + 1) ns os) =
+    rw z at (spend-one (k + 1) n ns os o h l b) in
     let t : (suc n + k == k) ≡ false = ne_eqb (suc n + k) k (λ e. omega (arith, e)) in
     let u : has_number k ((suc n + k) ∷ ns) ≡ has_number k ns = ap (λ c. c || has_number k ns) t in
     rw u (omega (arith, ih))

@@ -43,7 +43,9 @@ among_filter p a (x ∷ xs) h k = by_test (p x) refl (or_cases (bytes_eq x a) (i
     by_test false e (inl q) ih = absurd (both_ways _ e (subst (λ y. p y ≡ true) (sym (bytes-true x a q)) k))
     by_test false e (inr q) ih = ih q
 
-module _ (hash : List ℕ → List ℕ) (st : Instance) (book : List Pair) (q : List PathStep) (here : Standing) (choice : Contract) (i : ℕ) (b : term.Guarded) (stands : position_at hash st q ≡ Some (here, choice)) (there : slice_get (branches choice) i ≡ Some b) (endorsed : is_endorsed hash st book ≡ true) where
+module _ (hash : List ℕ → List ℕ) (st : Instance) (book : List Pair)
+    (q : List PathStep) (here : Standing) (choice : Contract) (i : ℕ) (b : term.Guarded) (stands : position_at hash st q ≡ Some (here, choice))
+    (there : slice_get (branches choice) i ≡ Some b) (endorsed : is_endorsed hash st book ≡ true) where
   abbrev path : List PathStep
   path = branch_path here.position i
 
@@ -60,8 +62,12 @@ module _ (hash : List ℕ → List ℕ) (st : Instance) (book : List Pair) (q : 
       → list_all (is_met book) (path_needs hash st.contract st.advert (d.0) (prepared hash (d.1))) ≡ true
   in_all [] d k h = absurd k
   in_all (x ∷ ds) d k h =
-      let e = flat_map-cons (λ (p : List PathStep × Prepared). path_needs hash st.contract st.advert p.0 p.1) (x.0, prepared hash x.1) (map {B = List PathStep × Prepared} (λ (p : List PathStep × Unsigned). (p.0, prepared hash p.1)) ds) in
-      let a = sym (all-append (is_met book) (path_needs hash st.contract st.advert (x.0) (prepared hash (x.1))) (flat_map (λ (p : List PathStep × Prepared). path_needs hash st.contract st.advert p.0 p.1) (map {B = List PathStep × Prepared} (λ (p : List PathStep × Unsigned). (p.0, prepared hash p.1)) ds))) ∙ ap (list_all (is_met book)) (sym e) ∙ h in
+      let e = flat_map-cons (λ (p : List PathStep × Prepared). path_needs hash st.contract st.advert p.0 p.1)
+      (x.0, prepared hash x.1) (map {B = List PathStep × Prepared} (λ (p : List PathStep × Unsigned). (p.0, prepared hash p.1)) ds) in
+      let a = sym (all-append (is_met book) (path_needs hash st.contract st.advert (x.0) (prepared hash (x.1)))
+      (flat_map (λ (p : List PathStep × Prepared). path_needs hash st.contract st.advert p.0 p.1)
+      (map {B = List PathStep × Prepared} (λ (p : List PathStep × Unsigned). (p.0, prepared hash p.1)) ds)))
+      ∙ ap (list_all (is_met book)) (sym e) ∙ h in
       let two = and_parts _ _ a in
       by_place k two.0 (λ j. in_all ds d j two.1)
     where
@@ -96,7 +102,9 @@ module _ (hash : List ℕ → List ℕ) (st : Instance) (book : List Pair) (q : 
       → has_signed book (key_of hash (branch_label st.contract path a)) (digest_of_spent hash (tx_of made) here.output) ≡ true
   branch_met a h k =
       let ps = filter (λ party. not (is_asked b party)) (participants st.advert) in
-      let all = sym (all_map (is_met book) (λ party. record { path = path; party = party; key = key_of hash (branch_label st.contract path party); digest = digest_of_spent hash (tx_of made) here.output }) ps) ∙ two.0 in
+      let all = sym (all_map (is_met book) (λ party.
+      record { path = path; party = party; key = key_of hash (branch_label st.contract path party); digest = digest_of_spent hash (tx_of made) here.output })
+      ps) ∙ two.0 in
       all_among (λ party. has_signed book (key_of hash (branch_label st.contract path party))
       (digest_of_spent hash (tx_of made) here.output)) ps a all (among_filter (λ party. not (is_asked b party)) a (participants st.advert) h (ap not k))
 

@@ -107,7 +107,9 @@ module _ (ds : List (List ℕ × Holding)) (fee : ℕ) where
   part_at : (ps : Parts) (i : ℕ) (p : ℕ × Contract) → EachPart ps → slice_get (parts_list ps) i ≡ Some p
       → (is_bad fee (pos (p.0)) (position (p.1)) ≡ false) × Each (pos (p.0)) (p.1)
   part_at no_part i p h e = cc
-  part_at (part v c ps) zero p h e = let z : (let q : ℕ × Contract = (v, c) in q) ≡ p = cc in subst (λ (q : ℕ × Contract). (is_bad fee (pos (q.0)) (position (q.1)) ≡ false) × Each (pos (q.0)) (q.1)) z (h.0, h.1)
+  part_at (part v c ps) zero p h e =
+      let z : (let q : ℕ × Contract = (v, c) in q) ≡ p = cc in
+      subst (λ (q : ℕ × Contract). (is_bad fee (pos (q.0)) (position (q.1)) ≡ false) × Each (pos (q.0)) (q.1)) z (h.0, h.1)
   part_at (part v c ps) (suc i) p h e = part_at ps i p h.2 e
 
 -- a difference that isn't negative
@@ -145,9 +147,12 @@ module _ (hash : List ℕ → List ℕ) (st : Instance) where
   continued_good : (here : Standing) (i : ℕ) (b c : term.Guarded) (p : Standing × Contract) → Under ds fee (pos here.output.value) c
       → continued_end hash st here i b c ≡ Some p → GoodPosition p
   continued_good here i b (put_reveal puts reveals test next) p h e =
-      let q = or_parts (at_core (is_uneven fee (after_put ds fee (pos here.output.value) puts)) (position next)) (is_short fee (after_put ds fee (pos here.output.value) puts) (position next)) h.0 in
+      let q = or_parts (at_core (is_uneven fee (after_put ds fee (pos here.output.value) puts)) (position next))
+      (is_short fee (after_put ds fee (pos here.output.value) puts) (position next)) h.0 in
       let v = difference here.output.value (value_of_puts ds puts) fee q.1 in
-      let g : (is_bad fee (pos (continued_value st here.output.value puts)) (position next) ≡ false) × Each ds fee (pos (continued_value st here.output.value puts)) next = subst (λ n. (is_bad fee n (position next) ≡ false) × Each ds fee n next) v h in
+      let g : (is_bad fee (pos (continued_value st here.output.value puts)) (position next) ≡ false)
+      × Each ds fee (pos (continued_value st here.output.value puts)) next =
+      subst (λ n. (is_bad fee n (position next) ≡ false) × Each ds fee n next) v h in
       subst GoodPosition (some_is _ p e) g
     where
       some_is : (x y : Standing × Contract) → (let o : Option (Standing × Contract) = Some x in o) ≡ Some y → x ≡ y
@@ -199,9 +204,11 @@ module _ (hash : List ℕ → List ℕ) (st : Instance) where
         let f = no_fault st.advert well in
         let a = none_of (λ s. at_core (is_uneven st.advert.fee s.balance) s.subterm) (all_funded st.advert) f.1.1.1.1.1.1.0 in
         let b = none_of (λ s. is_short st.advert.fee s.balance s.subterm) (all_funded st.advert) f.1.1.1.1.1.1.1.0 in
-        let all = none_both (λ s. at_core (is_uneven st.advert.fee s.balance) s.subterm) (λ s. is_short st.advert.fee s.balance s.subterm) (all_funded st.advert) a b in
+        let all = none_both (λ s. at_core (is_uneven st.advert.fee s.balance) s.subterm)
+        (λ s. is_short st.advert.fee s.balance s.subterm) (all_funded st.advert) a b in
         let e = each_of ds fee [] (root_balance st.advert) 0 st.advert.root all.1 in
-        let q = or_parts (at_core (is_uneven fee (root_balance st.advert)) (position st.advert.root)) (is_short fee (root_balance st.advert) (position st.advert.root)) all.0 in
+        let q = or_parts (at_core (is_uneven fee (root_balance st.advert)) (position st.advert.root))
+        (is_short fee (root_balance st.advert) (position st.advert.root)) all.0 in
         let v = root_difference (total_of (persistent st.advert.pre)) fee q.1 in
         subst (λ n. (is_bad fee n (position st.advert.root) ≡ false) × Each ds fee n st.advert.root) v (all.0, e)
 

@@ -74,10 +74,12 @@ module _ (s : Setup) (before : List Record) (w : World) (kept : KeptStarts s bef
   starts_after e grows = record {
     started = λ k a honest h.
         let test = λ (r : Record). is_done r.outcome && is_init k a r.event in
-        elim (or_cases (list_any test before) (list_any test (record_of e (pending s w e) ∷ [])) (sym (any-append test before (record_of e (pending s w e) ∷ [])) ∙ h)) [
+        elim (or_cases (list_any test before) (list_any test (record_of e (pending s w e) ∷ []))
+        (sym (any-append test before (record_of e (pending s w e) ∷ [])) ∙ h)) [
           | inl x ↦ ready_later s w (applied w (pending s w e)) grows k (kept.started k a honest x)
           | inr y ↦ elim (or_cases (is_done (pending s w e).outcome && is_init k a e) false y) [
-            | inl u ↦ (let p = and_parts (is_done (pending s w e).outcome) (is_init k a e) u in ready_later s w (applied w (pending s w e)) grows k (new k a honest e p.0 p.1))
+            | inl u ↦ (let p = and_parts (is_done (pending s w e).outcome) (is_init k a e) u in
+                ready_later s w (applied w (pending s w e)) grows k (new k a honest e p.0 p.1))
             | inr v ↦ cc
           ]
         ];

@@ -40,7 +40,8 @@ use Rattle.theory_offers.proofs.Basis.EveryEvent.{OffersKept, refused_offers, en
 use Rattle.theory_offers.proofs.Basis.Reached.{BeginsEndorsed, accepted_every, given_accepted}
 use Rattle.theory_offers.proofs.Basis.Begun.{begins_endorsed}
 
-module _ (s : Setup) (setup : IsSetup s) (z : List (List ℕ)) (before : List Record) (g : Configuration) (w : World) (books : KeptBooks s g w) (leave : KeptLeave s before g w) (starts : KeptStarts s before w) (more : KeptOffers s g w) where
+module _ (s : Setup) (setup : IsSetup s) (z : List (List ℕ)) (before : List Record) (g : Configuration)
+    (w : World) (books : KeptBooks s g w) (leave : KeptLeave s before g w) (starts : KeptStarts s before w) (more : KeptOffers s g w) where
   -- ---- a transaction reaches the ledger
 
   -- in an event whose signatures were there before
@@ -49,8 +50,11 @@ module _ (s : Setup) (setup : IsSetup s) (z : List (List ℕ)) (before : List Re
     pub begins_ready : (tx : Tx) (spent made : List ℕ) → verdict_in s w tx ≡ verdicts.Accepted spent made → pending s w e ≡ accepted s w tx spent
         → collision s.hash w.hashed (accepted s w tx spent).hashes ≡ None → BeginsEndorsed s w tx
     begins_ready tx spent made h d c =
-        let left : SpendsWithLeave s before w (record_of e (pending s w e)) (applied w (pending s w e)) = leave_of_event s setup before g w books.book (fits s setup g w books) (checks s setup g w books) leave books.clear e is (subst (λ x. collision s.hash w.hashed x.hashes ≡ None) (sym d) c) in
-        let went : SpendsWithLeave s before w (record_of e (accepted s w tx spent)) (applied w (accepted s w tx spent)) = subst (λ x. SpendsWithLeave s before w (record_of e x) (applied w x)) d left in
+        let left : SpendsWithLeave s before w (record_of e (pending s w e)) (applied w (pending s w e)) =
+        leave_of_event s setup before g w books.book (fits s setup g w books)
+        (checks s setup g w books) leave books.clear e is (subst (λ x. collision s.hash w.hashed x.hashes ≡ None) (sym d) c) in
+        let went : SpendsWithLeave s before w (record_of e (accepted s w tx spent)) (applied w (accepted s w tx spent)) =
+        subst (λ x. SpendsWithLeave s before w (record_of e x) (applied w x)) d left in
         begins_endorsed s g w books.book (checks s setup g w books) books.clear before starts e tx spent (accepted_by s w tx spent made h) went no_gift
 
     reaches_offers : (tx : Tx) → pending s w e ≡ reaches s w w tx → collision s.hash w.hashed (reaches s w w tx).hashes ≡ None
@@ -108,7 +112,8 @@ module _ (s : Setup) (setup : IsSetup s) (z : List (List ℕ)) (before : List Re
     given_offers row (verdicts.Accepted spent made) h calm =
         let hs = noted_all w.hashed (strings_of s w given ++ items_of given) in
         let signed : KeptBook s g (record w { book = signed_all w.book pairs; hashed = hs }) =
-        signed_kept s setup.hash setup.few_contracts z g w books.book (fits s setup g w books) (checks s setup g w books) books.clear party is.giver inputs outputs is.few_outputs row spent made h calm in
+        signed_kept s setup.hash setup.few_contracts z g w books.book
+        (fits s setup g w books) (checks s setup g w books) books.clear party is.giver inputs outputs is.few_outputs row spent made h calm in
         given_accepted s z g w books.book more pairs hs signed giving given spent
         (accepted_by s (record w { book = signed_all w.book pairs; hashed = hs }) given spent made h) starts_nothing
 

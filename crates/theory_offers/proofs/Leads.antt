@@ -50,7 +50,8 @@ leads_by s g w e step d h = by_halts (collision s.hash w.hashed d.hashes) (guess
 
 -- ---- a beginning
 
-module _ (s : Setup) (setup : IsSetup s) (z : List (List ℕ)) (g : Configuration) (w : World) (agree : Agree s g w) (kept : KeptBook s g w) (check : Checked s w) (secrets : KeptSecrets s z g w) (more : KeptOffers s g w) (k : ℕ) (may : MayBegin s setup z g w agree kept secrets more k) where
+module _ (s : Setup) (setup : IsSetup s) (z : List (List ℕ)) (g : Configuration) (w : World) (agree : Agree s g w) (kept : KeptBook s g w)
+    (check : Checked s w) (secrets : KeptSecrets s z g w) (more : KeptOffers s g w) (k : ℕ) (may : MayBegin s setup z g w agree kept secrets more k) where
   abbrev st : Instance
   st = instance_of w k may.advert
 
@@ -71,7 +72,8 @@ module _ (s : Setup) (setup : IsSetup s) (z : List (List ℕ)) (g : Configuratio
       by_contract None e = absurd (not_initial s w tx k (instance_of w k may.advert) e may.compiled tx_bare)
       by_contract (Some j) e =
           let is = initial_is s w tx j e in
-          let q = one_initial s setup.hash setup.few_contracts w check w.hashed secrets.clear kept.heard k j (instance_of w k may.advert) is.instance may.compiled is.compiled (sym tx_bare ∙ is.is) in
+          let q = one_initial s setup.hash setup.few_contracts w check w.hashed secrets.clear kept.heard k j
+          (instance_of w k may.advert) is.instance may.compiled is.compiled (sym tx_bare ∙ is.is) in
           ap Some (sym q)
 
   kind_is : kind_of s w tx ns ≡ Begins k

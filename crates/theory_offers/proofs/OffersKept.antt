@@ -52,7 +52,8 @@ passed p (y ∷ xs) x h = by_test (p y) refl h (passed p xs x)
     by_test true e (inr q) ih = ih q
     by_test false e q ih = ih q
 
-module _ (s : Setup) (setup : IsSetup s) (z : List (List ℕ)) (g : Configuration) (w : World) (agree : Agree s g w) (kept : KeptBook s g w) (check : Checked s w) (secrets : KeptSecrets s z g w) (begins : Begins z w.posted) (more : KeptOffers s g w) where
+module _ (s : Setup) (setup : IsSetup s) (z : List (List ℕ)) (g : Configuration) (w : World) (agree : Agree s g w)
+    (kept : KeptBook s g w) (check : Checked s w) (secrets : KeptSecrets s z g w) (begins : Begins z w.posted) (more : KeptOffers s g w) where
   only : (x y : Offer) → Is_in y (x ∷ []) → IsKept s g w x → IsKept s g w y
   only x y (inl e) h = subst (IsKept s g w) (sym e) h
   only x y (inr i) h = absurd i

@@ -57,7 +57,8 @@ some_part : (hash : List ℕ → List ℕ) (st : Instance) (path : List PathStep
 some_part hash st path no_part h = absurd (omega (arith, h))
 some_part hash st path (part v c ps) h = omega arith
 
-module _ (s : Setup) (setup : IsSetup s) (g : Configuration) (w : World) (agree : Agree s g w) (kept : KeptBook s g w) (check : Checked s w) (more : KeptOffers s g w) where
+module _ (s : Setup) (setup : IsSetup s)
+    (g : Configuration) (w : World) (agree : Agree s g w) (kept : KeptBook s g w) (check : Checked s w) (more : KeptOffers s g w) where
   -- a live contract output as an active contract
   pub record Active (n : ℕ) : Type 0 where
     pub output : Output
@@ -150,7 +151,8 @@ module _ (s : Setup) (setup : IsSetup s) (g : Configuration) (w : World) (agree 
     withdraw_take b p (after height body) e h = cc
     withdraw_take b p (withdraw party) e h =
         let v = fine.here.output.value - fine.instance.advert.fee in
-        let o : (branch_unsigned s.hash fine.instance fine.here i b).outputs ≡ pays s.hash (party_script s.hash party) v ∷ [] = ap (core_outputs s.hash fine.instance (branch_path fine.here.position i) fine.here.output.value) e in
+        let o : (branch_unsigned s.hash fine.instance fine.here i b).outputs ≡ pays s.hash (party_script s.hash party) v ∷ [] =
+        ap (core_outputs s.hash fine.instance (branch_path fine.here.position i) fine.here.output.value) e in
         let t = ap bitcoin.total_of o ∙ one_total (pays s.hash (party_script s.hash party) v) in
         let l = ap length o in
         takes_kept s setup g w kept check more n i
@@ -168,7 +170,8 @@ module _ (s : Setup) (setup : IsSetup s) (g : Configuration) (w : World) (agree 
     split_take b p (split ps) e h k =
         let q = k ps e in
         let path = branch_path fine.here.position i in
-        let o : (branch_unsigned s.hash fine.instance fine.here i b).outputs ≡ part_outputs s.hash fine.instance path 0 ps = ap (core_outputs s.hash fine.instance path fine.here.output.value) e in
+        let o : (branch_unsigned s.hash fine.instance fine.here i b).outputs ≡ part_outputs s.hash fine.instance path 0 ps =
+        ap (core_outputs s.hash fine.instance path fine.here.output.value) e in
         let t = ap bitcoin.total_of o ∙ parts_total s.hash fine.instance path 0 ps in
         let l = ap length o in
         let f = some_part s.hash fine.instance path ps q.0 in

@@ -61,7 +61,8 @@ puts_worth hash st (x ∷ puts) =
     by_look None = refl
     by_look (Some h) = refl
 
-module _ (s : Setup) (setup : IsSetup s) (z : List (List ℕ)) (g : Configuration) (w : World) (agree : Agree s g w) (kept : KeptBook s g w) (check : Checked s w) (secrets : KeptSecrets s z g w) (begins : Begins z w.posted) (more : KeptOffers s g w) where
+module _ (s : Setup) (setup : IsSetup s) (z : List (List ℕ)) (g : Configuration) (w : World) (agree : Agree s g w)
+    (kept : KeptBook s g w) (check : Checked s w) (secrets : KeptSecrets s z g w) (begins : Begins z w.posted) (more : KeptOffers s g w) where
   module _ (n i : ℕ) (a : Active s setup g w agree kept check more n) (b : term.Guarded) (p : Permitted s setup g w agree kept check more n i a b) where
     abbrev pub st : Instance
     st = (fine s setup g w agree kept check more n i a).instance
@@ -108,7 +109,8 @@ module _ (s : Setup) (setup : IsSetup s) (z : List (List ℕ)) (g : Configuratio
         let nf = no_fault st.advert well in
         let pos = term_choice s.hash st a.held.position f.here f.choice f.stands in
         let known = core_fact (λ y. are_among (puts_of y) (names_of (volatile st.advert.pre))) st.advert a.held.position f.choice i b nf.1.0 pos p.is_branch in
-        let apart = core_fact (λ y. are_different (puts_of y) && are_different (reveals_of y)) st.advert a.held.position f.choice i b nf.1.1.1.0 pos p.is_branch in
+        let apart = core_fact (λ y. are_different (puts_of y) && are_different (reveals_of y))
+        st.advert a.held.position f.choice i b nf.1.1.1.0 pos p.is_branch in
         let same : bindings_of g.advertised k ≡ bindings_at w.advertised k = bindings_same g.advertised k ∙ ap (λ xs. bindings_at xs k) agree.advertised in
         let v = continued_value st f.here.output.value puts in
         let out = pays s.hash (position_script s.hash st (branch_path f.here.position i) next) v in
@@ -116,7 +118,8 @@ module _ (s : Setup) (setup : IsSetup s) (z : List (List ℕ)) (g : Configuratio
         let t = ap bitcoin.total_of o ∙ one_total out in
         let l = ap length o in
         let pw = puts_worth s.hash st (puts_of (core b)) in
-        let pv : value_of_puts (volatile st.advert.pre) (puts_of (core b)) ≡ value_of_puts (volatile st.advert.pre) puts = ap (λ c. value_of_puts (volatile st.advert.pre) (puts_of c)) e in
+        let pv : value_of_puts (volatile st.advert.pre) (puts_of (core b)) ≡ value_of_puts (volatile st.advert.pre) puts =
+        ap (λ c. value_of_puts (volatile st.advert.pre) (puts_of c)) e in
         takes_kept s setup g w kept check more n i
         (record {
           output = a.output;

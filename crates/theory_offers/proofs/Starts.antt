@@ -59,7 +59,8 @@ one_total o = sum_by-cons (λ (x : TxOut). x.value) o []
 
 -- ---- a contract that may begin
 
-module _ (s : Setup) (setup : IsSetup s) (z : List (List ℕ)) (g : Configuration) (w : World) (agree : Agree s g w) (kept : KeptBook s g w) (secrets : KeptSecrets s z g w) (more : KeptOffers s g w) where
+module _ (s : Setup) (setup : IsSetup s) (z : List (List ℕ))
+    (g : Configuration) (w : World) (agree : Agree s g w) (kept : KeptBook s g w) (secrets : KeptSecrets s z g w) (more : KeptOffers s g w) where
   pub committed_is : (k : ℕ) (a : List ℕ) → has_committed g.committed k a ≡ has_promised w k a
   committed_is k a = ap (λ cs. has_committed cs k a) secrets.lengths ∙ any_map (λ c. (c.contract == k) && bytes_eq c.party a) (committed_by s z) w.promises
 
@@ -92,7 +93,8 @@ module _ (s : Setup) (setup : IsSetup s) (z : List (List ℕ)) (g : Configuratio
       by_advert None e t = let f = t.0 in cc
       by_advert (Some a) e t =
           let c = and_parts true (have_committed g.committed k (participants a)) t.0 in
-          let p : have_promised w k (participants a) ≡ true = sym (all_alike (has_committed g.committed k) (has_promised w k) (participants a) (committed_is k)) ∙ c.1 in
+          let p : have_promised w k (participants a) ≡ true =
+          sym (all_alike (has_committed g.committed k) (has_promised w k) (participants a) (committed_is k)) ∙ c.1 in
           let well = all_checked s.contracts k a setup.contracts e in
           let one = a_person a well in
           let adv = more.told k one.0 (all_among (has_promised w k) (participants a) one.0 p one.1) in
@@ -119,7 +121,8 @@ module _ (s : Setup) (setup : IsSetup s) (z : List (List ℕ)) (g : Configuratio
         let dep = has_deposit may.advert one.0 may.well one.1 in
         let ds = persistent may.advert.pre in
         let fresh = total_worth s.hash (instance_of w k may.advert) ds in
-        let total = one_total (pays s.hash (position_script s.hash (instance_of w k may.advert) [] may.advert.root) (root_value (instance_of w k may.advert))) in
+        let total =
+        one_total (pays s.hash (position_script s.hash (instance_of w k may.advert) [] may.advert.root) (root_value (instance_of w k may.advert))) in
         let some = in_some (dep.name, dep.holding) ds dep.there in
         let len = length_map (λ (d : List ℕ × Holding). deposit s.hash (instance_of w k may.advert) (d.0) (d.1)) ds in
         record {

@@ -37,7 +37,8 @@ use Rattle.theory_offers.proofs.Leads.{leads_by}
 use Rattle.theory_offers.proofs.Takings as taking
 use Rattle.theory_offers.proofs.Takings.{MayTake}
 
-module _ (s : Setup) (setup : IsSetup s) (g : Configuration) (w : World) (kept : KeptBook s g w) (check : Checked s w) (more : KeptOffers s g w) (n i : ℕ) (may : MayTake s g w n i) where
+module _ (s : Setup) (setup : IsSetup s) (g : Configuration)
+    (w : World) (kept : KeptBook s g w) (check : Checked s w) (more : KeptOffers s g w) (n i : ℕ) (may : MayTake s g w n i) where
   abbrev tx : Tx
   tx = taking.tx s setup g w kept check more n i may
 
@@ -49,7 +50,8 @@ module _ (s : Setup) (setup : IsSetup s) (g : Configuration) (w : World) (kept :
 
   row : first_reason (fire_row s w n i) ≡ None
   row =
-      let b : branch_if_live s (live_position_at w n) i ≡ Some may.branch = ap (λ h. branch_if_live s h i) held_is ∙ taking.branch_is s setup g w kept check more n i may in
+      let b : branch_if_live s (live_position_at w n) i ≡ Some may.branch =
+      ap (λ h. branch_if_live s h i) held_is ∙ taking.branch_is s setup g w kept check more n i may in
       let t : position_instance s w (live_position_at w n) ≡ Some may.fine.instance = ap (position_instance s w) held_is ∙ may.fine.compiled in
       let u : unknown_at s w n i ≡ None = (λ j. unknown_secret s w (t j) (b j)) ∙ may.shown in
       none_reason (fire_row s w n i) (ap (λ o. not (is_some o)) held_is, (ap (λ o. not (is_some o)) b, (ap is_some u, tt)))
@@ -85,7 +87,9 @@ module _ (s : Setup) (setup : IsSetup s) (g : Configuration) (w : World) (kept :
       let witness = taking.witness s setup g w kept check more n i may in
       let c : chosen_by (branch_count s may.held) witness ≡ i =
       ap (λ m. chosen_by m witness) (counted s w may.held may.output may.fine)
-      ∙ witness_chooses (length (branches may.fine.choice)) i (taking.sigs s setup g w kept check more n i may) (taking.strings s setup g w kept check more n i may) (script_of_position s may.fine.instance may.held may.fine.choice) (get_below (branches may.fine.choice) i may.branch may.is_branch) in
+      ∙ witness_chooses (length (branches may.fine.choice)) i
+      (taking.sigs s setup g w kept check more n i may) (taking.strings s setup g w kept check more n i may)
+      (script_of_position s may.fine.instance may.held may.fine.choice) (get_below (branches may.fine.choice) i may.branch may.is_branch) in
       (λ j. kind_by s tx (n ∷ ns) (no_initial j) (held_is j)) ∙ ap (Takes may.held n) c
 
   module _ (step : Step) (step_is : core_step n i (core may.branch) ≡ step ∷ []) where

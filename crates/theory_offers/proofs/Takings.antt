@@ -90,7 +90,8 @@ pub record MayTake (s : Setup) (g : Configuration) (w : World) (n i : ℕ) : Typ
   pub enough : bitcoin.total_of (branch_unsigned s.hash fine.instance fine.here i branch).outputs ≤ worth
       (branch_unsigned s.hash fine.instance fine.here i branch).spends
 
-module _ (s : Setup) (setup : IsSetup s) (g : Configuration) (w : World) (kept : KeptBook s g w) (check : Checked s w) (more : KeptOffers s g w) (n i : ℕ) (may : MayTake s g w n i) where
+module _ (s : Setup) (setup : IsSetup s) (g : Configuration)
+    (w : World) (kept : KeptBook s g w) (check : Checked s w) (more : KeptOffers s g w) (n i : ℕ) (may : MayTake s g w n i) where
   abbrev pub held : ContractPosition
   held = may.held
 
@@ -251,7 +252,10 @@ module _ (s : Setup) (setup : IsSetup s) (g : Configuration) (w : World) (kept :
 
   pub taking_is : taking_of_position s w (live_position_at w n) i ≡ Some tx
   taking_is =
-      let c : contract_in (contract_at s held.contract) held.position ≡ Some choice = ap (λ a. contract_in a held.position) contract_is ∙ term_choice s.hash st held.position here choice may.fine.stands in
-      let d : prepared_at s.hash st path ≡ Some (prepared s.hash made) = ap (option_map (prepared s.hash)) (unsigned_of_branch s.hash st held.position here choice i b may.fine.stands may.is_branch) in
-      let p : prepared_if_compiled s (compiled_instance s w held.contract) path ≡ Some (prepared s.hash made) = ap (λ o. prepared_if_compiled s o path) may.fine.compiled ∙ d in
+      let c : contract_in (contract_at s held.contract) held.position ≡ Some choice =
+      ap (λ a. contract_in a held.position) contract_is ∙ term_choice s.hash st held.position here choice may.fine.stands in
+      let d : prepared_at s.hash st path ≡ Some (prepared s.hash made) =
+      ap (option_map (prepared s.hash)) (unsigned_of_branch s.hash st held.position here choice i b may.fine.stands may.is_branch) in
+      let p : prepared_if_compiled s (compiled_instance s w held.contract) path ≡ Some (prepared s.hash made) =
+      ap (λ o. prepared_if_compiled s o path) may.fine.compiled ∙ d in
       ap (λ h. taking_of_position s w h i) held_is ∙ (λ j. taking_of_parts s w held i (may.fine.compiled j) (c j) (branch_is j) (p j))

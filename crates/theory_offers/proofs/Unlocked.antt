@@ -39,7 +39,10 @@ named_by name party (Secret p n ∷ pre) h = by_test (bytes_eq p party) h (named
     by_test : (b : Bool) → is_among name (if b then n ∷ names_of_party party (secrets pre) else names_of_party party (secrets pre)) ≡ true
         → (is_among name (names_of_party party (secrets pre)) ≡ true → is_among name (map name_in pre) ≡ true)
         → (bytes_eq n name || is_among name (map name_in pre)) ≡ true
-    by_test true q ih = elim (or_cases (bytes_eq n name) (is_among name (names_of_party party (secrets pre))) q) [ inl x ↦ or_left _ _ x | inr x ↦ or_right (bytes_eq n name) _ (ih x) ]
+    by_test true q ih = elim (or_cases (bytes_eq n name) (is_among name (names_of_party party (secrets pre))) q) [
+      | inl x ↦ or_left _ _ x
+      | inr x ↦ or_right (bytes_eq n name) _ (ih x)
+    ]
     by_test false q ih = or_right (bytes_eq n name) _ (ih q)
 
 -- a name of one precondition is of one party
@@ -59,7 +62,10 @@ one_owner name party owner (Secret p n ∷ pre) d l h =
     by_tests true false e f x y a ih =
         let m = bytes-true n name e in
         absurd (both_ways _ a (subst (λ t. is_among t (map name_in pre) ≡ true) (sym m) (named_by name party pre y)))
-    by_tests false true e f x y a ih = ih x (elim (or_cases (bytes_eq n name) (is_among name (names_of_party party (secrets pre))) y) [ inl u ↦ absurd (both_ways _ e u) | inr u ↦ u ])
+    by_tests false true e f x y a ih = ih x (elim (or_cases (bytes_eq n name) (is_among name (names_of_party party (secrets pre))) y) [
+      | inl u ↦ absurd (both_ways _ e u)
+      | inr u ↦ u
+    ])
     by_tests false false e f x y a ih = ih x y
 
 -- ---- the digest of a name
@@ -131,7 +137,8 @@ module _ (s : Setup) (z : List (List ℕ)) (g : Configuration) (w : World) (secr
       by_honest false h = ap (option_map secret_size) (begins.first (fits s d) (any_found (fits s d) w.posted (ap is_some f)) ∙ f)
 
   module _ (st : Instance) (k : ℕ) (hashes : st.hashes ≡ digests_at w.promises k) (apart : are_different (map name_in st.advert.pre) ≡ true)
-      (own : (p : Promise) → Is_in p w.promises → p.contract ≡ k → (name : List ℕ) → is_some (look_up name p.digests) ≡ true → is_among name (secrets_of p.party st.advert.pre) ≡ true) where
+      (own : (p : Promise) → Is_in p w.promises → p.contract ≡ k
+      → (name : List ℕ) → is_some (look_up name p.digests) ≡ true → is_among name (secrets_of p.party st.advert.pre) ≡ true) where
     -- a secret that is shown
     pub record ShownSecret (name : List ℕ) : Type 0 where
       pub string : List ℕ
@@ -148,7 +155,9 @@ module _ (s : Setup) (z : List (List ℕ)) (g : Configuration) (w : World) (secr
         by_string owner d l e None f q = cc
         by_string owner d l e (Some t) f q =
             let x : Revealed = record { contract = k; party = owner; secret = name } in
-            let di : digest_of st.hashes name ≡ d = ap (λ hs. digest_of hs name) hashes ∙ digest_is k owner name d w.promises (λ p i c n. one_owner name p.party owner st.advert.pre apart l (own p i c name n)) e in
+            let di : digest_of st.hashes name ≡ d =
+            ap (λ hs. digest_of hs name) hashes
+            ∙ digest_is k owner name d w.promises (λ p i c n. one_owner name p.party owner st.advert.pre apart l (own p i c name n)) e in
             let len = length_is owner name d t (λ a. subst (λ o. is_own s w.hashed (held_secret s owner name) o ≡ true) e (secrets_kept.own x a)) f in
             record {
               string = t;

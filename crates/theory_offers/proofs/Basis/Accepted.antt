@@ -48,7 +48,8 @@ spent_there s w tx (n ∷ ns) (i ∷ is) m h k = elim (or_cases (n == m) (has_nu
 
 -- what is made by a branch is of its contract
 core_contract : (k : ℕ) (path : List PathStep) (c : term.Guarded) (m : ℕ) (h : ContractPosition) → core_holds k path c m ≡ Some h → h.contract ≡ k
-core_contract k path (put_reveal puts reveals test next) m h e = let z : record { contract = k; position = path } ≡ h = cc in ap (λ (y : ContractPosition). y.contract) (sym z)
+core_contract k path (put_reveal puts reveals test next) m h e =
+    let z : record { contract = k; position = path } ≡ h = cc in ap (λ (y : ContractPosition). y.contract) (sym z)
 core_contract k path (split parts) m h e = let z = some_held _ h e in ap (λ (y : ContractPosition). y.contract) (sym z)
   where
     some_held : (x y : ContractPosition) → (let o : Option ContractPosition = Some x in o) ≡ Some y → x ≡ y
@@ -61,7 +62,8 @@ branch_contract : (k : ℕ) (path : List PathStep) (b : Option term.Guarded) (m 
 branch_contract k path None m h e = cc
 branch_contract k path (Some b) m h e = core_contract k path (core b) m h e
 
-module _ (s : Setup) (g g' : Configuration) (w : World) (kept : KeptBook s g w) (more : KeptOffers s g w) (constant : Constant s g') (tx : Tx) (spent : List ℕ) (is : IsAccepted s w tx spent) where
+module _ (s : Setup) (g g' : Configuration) (w : World)
+    (kept : KeptBook s g w) (more : KeptOffers s g w) (constant : Constant s g') (tx : Tx) (spent : List ℕ) (is : IsAccepted s w tx spent) where
   abbrev pub next : World
   next = applied w (accepted s w tx spent)
 
@@ -91,17 +93,18 @@ module _ (s : Setup) (g g' : Configuration) (w : World) (kept : KeptBook s g w) 
 
       by_output : (r : Option Output) → slice_get next.outputs n ≡ r → live_position r ≡ Some h → Where n h
       by_output None f x = cc
-      by_output (Some o) f x = elim (get-split (spend_from 0 spent w.outputs) (made_from (new_position s (kind_of s w tx spent)) (txid s.hash tx) 0 tx.outputs) n o f) [
-        | inl a ↦ by_old (slice_get w.outputs n) refl o (sym (get-spent 0 n spent w.outputs) ∙ a) x
-        | inr b ↦ (
-            let r = get-made (new_position s (kind_of s w tx spent)) (txid s.hash tx) 0 b.0 tx.outputs o b.2 in
-            let z : b.0 + 0 ≡ b.0 = omega arith in
-            let l : o.live ≡ true = ap (λ (y : Output). y.live) r.2 in
-            let k : o.holds ≡ new_position s (kind_of s w tx spent) b.0 = rw z at (ap (λ (y : Output). y.holds) r.2) in
-            let y : live_position (Some o) ≡ o.holds = rw l refl in
-            comes b.0 (b.1 ∙ ap (λ q. q + b.0) (length-spend_from 0 spent w.outputs)) (sym k ∙ sym y ∙ x)
-            )
-      ]
+      by_output (Some o) f x =
+          elim (get-split (spend_from 0 spent w.outputs) (made_from (new_position s (kind_of s w tx spent)) (txid s.hash tx) 0 tx.outputs) n o f) [
+            | inl a ↦ by_old (slice_get w.outputs n) refl o (sym (get-spent 0 n spent w.outputs) ∙ a) x
+            | inr b ↦ (
+                let r = get-made (new_position s (kind_of s w tx spent)) (txid s.hash tx) 0 b.0 tx.outputs o b.2 in
+                let z : b.0 + 0 ≡ b.0 = omega arith in
+                let l : o.live ≡ true = ap (λ (y : Output). y.live) r.2 in
+                let k : o.holds ≡ new_position s (kind_of s w tx spent) b.0 = rw z at (ap (λ (y : Output). y.holds) r.2) in
+                let y : live_position (Some o) ≡ o.holds = rw l refl in
+                comes b.0 (b.1 ∙ ap (λ q. q + b.0) (length-spend_from 0 spent w.outputs)) (sym k ∙ sym y ∙ x)
+                )
+          ]
 
   made_stays : (n : ℕ) → is_some (slice_get w.outputs n) ≡ true → is_some (slice_get next.outputs n) ≡ true
   made_stays n h = by_output (slice_get w.outputs n) refl h

@@ -71,7 +71,8 @@ module _ (s : Setup) (g : Configuration) (w : World) (kept : KeptBook s g w) (ch
     live : bound.bound.output.live ≡ true
     live =
         let acc = accepting s w tx spent is in
-        let j = bare_in (map input_of (persistent_deposits s.hash st)) tx.inputs (input_of (deposit s.hash st (d.0) (d.1))) (sym (ap (λ (y : Tx). y.inputs) it.is)) (spends_in s.hash st (persistent st.advert.pre) d has.there) in
+        let j = bare_in (map input_of (persistent_deposits s.hash st)) tx.inputs (input_of (deposit s.hash st (d.0) (d.1)))
+        (sym (ap (λ (y : Tx). y.inputs) it.is)) (spends_in s.hash st (persistent st.advert.pre) d has.there) in
         let r = spent_at s w tx spent tx.inputs j.0 acc.spends j.1 in
         let m = kept.apart bound.number r.0 bound.bound.output r.2.output bound.bound.there r.2.there (sym bound.outpoint ∙ sym j.2 ∙ r.2.outpoint) in
         let o : (let x : Option Output = Some bound.bound.output in x) ≡ Some r.2.output = sym bound.bound.there ∙ ap (slice_get w.outputs) m ∙ r.2.there in

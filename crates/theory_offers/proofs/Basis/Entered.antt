@@ -76,10 +76,11 @@ init_kind s g w tx spent (Takes held n i) k p x h = absurd (by_branch (position_
       | inl a ↦ no_branch k p x n i (filter (is_awaited g n i b) (people_at s held.contract)) a
       | inr a ↦ no_core k p x n i (core b) a
     ]
-init_kind s g w tx spent Moves k p x h = elim (in_joined (map (auth_move (move_of s tx spent)) (parties_once (owners_of s w spent))) (steps.Move (move_of s tx spent) ∷ []) _ h) [
-  | inl a ↦ absurd (no_move k p x (move_of s tx spent) (parties_once (owners_of s w spent)) a)
-  | inr b ↦ elim b [ inl e ↦ cc | inr e ↦ absurd e ]
-]
+init_kind s g w tx spent Moves k p x h =
+    elim (in_joined (map (auth_move (move_of s tx spent)) (parties_once (owners_of s w spent))) (steps.Move (move_of s tx spent) ∷ []) _ h) [
+      | inl a ↦ absurd (no_move k p x (move_of s tx spent) (parties_once (owners_of s w spent)) a)
+      | inr b ↦ elim b [ inl e ↦ cc | inr e ↦ absurd e ]
+    ]
 
 begins_by : (s : Setup) (tx : Tx) (spent : List ℕ) (k : ℕ) (o : Option ℕ) (f : Option ContractPosition) → kind_by s tx spent o f ≡ Begins k → o ≡ Some k
 begins_by s tx spent k (Some c) f h = let e : c ≡ k = cc in ap Some e
@@ -138,10 +139,11 @@ asked_kind s g w tx spent (Takes held m j) n i a h = by_branch (position_branch 
       | inl x ↦ ap Some (one_branch n i m j a (filter (is_awaited g m j b) (people_at s held.contract)) x)
       | inr x ↦ absurd (no_core_branch n i m j a (core b) x)
     ]
-asked_kind s g w tx spent Moves n i a h = elim (in_joined (map (auth_move (move_of s tx spent)) (parties_once (owners_of s w spent))) (steps.Move (move_of s tx spent) ∷ []) _ h) [
-  | inl x ↦ absurd (no_move_branch n i a (move_of s tx spent) (parties_once (owners_of s w spent)) x)
-  | inr x ↦ elim x [ inl e ↦ cc | inr e ↦ absurd e ]
-]
+asked_kind s g w tx spent Moves n i a h =
+    elim (in_joined (map (auth_move (move_of s tx spent)) (parties_once (owners_of s w spent))) (steps.Move (move_of s tx spent) ∷ []) _ h) [
+      | inl x ↦ absurd (no_move_branch n i a (move_of s tx spent) (parties_once (owners_of s w spent)) x)
+      | inr x ↦ elim x [ inl e ↦ cc | inr e ↦ absurd e ]
+    ]
 
 taken_first : (s : Setup) (w : World) (tx : Tx) (spent : List ℕ) (n : ℕ) (o : Option ℕ) (f : Option ContractPosition)
     → first_position w spent ≡ f → taken_output (kind_by s tx spent o f) ≡ Some n → has_number n spent ≡ true
@@ -183,5 +185,6 @@ entered_offers s g w kept more tx spent is stays back endorsed =
         | inr r ↦ inr (taken_first s w tx spent n (initial_of s w tx) (first_position w spent) refl (asked_kind s g w tx spent (kind_of s w tx spent) n i a r))
       ]
     ])
-    (λ k e. let r = initial_is s w tx k e in (r.instance, r.compiled, endorsed k r.instance e r.compiled, λ d i. is_gone s g w kept tx spent is k r.instance r.compiled d i r.is))
+    (λ k e. let r = initial_is s w tx k e in
+    (r.instance, r.compiled, endorsed k r.instance e r.compiled, λ d i. is_gone s g w kept tx spent is k r.instance r.compiled d i r.is))
     (λ k st d c i l. was_live s g w kept tx spent is k st c d i l)

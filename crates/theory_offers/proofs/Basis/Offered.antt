@@ -104,7 +104,8 @@ opens_deposit hash size book a d l h =
     let v : is_valid book d sig key ≡ true = and_from _ _ (bytes_refl sig) h in
     m ∙ and_from _ _ v refl
 
-module _ (s : Setup) (size : IsHash s.hash) (g : Configuration) (w : World) (kept : KeptBook s g w) (k : ℕ) (st : Instance) (compiled : compiled_instance s w k ≡ Some st) where
+module _ (s : Setup) (size : IsHash s.hash)
+    (g : Configuration) (w : World) (kept : KeptBook s g w) (k : ℕ) (st : Instance) (compiled : compiled_instance s w k ≡ Some st) where
   same_contract : st.contract ≡ k
   same_contract = ap (λ (y : Instance). y.contract) (compiled_is s w k st compiled).is
 

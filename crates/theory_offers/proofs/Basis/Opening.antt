@@ -48,7 +48,8 @@ none_held id k (suc n) (o ∷ os) = none_held id (k + 1) n os
 pub opening_kept : (s : Setup) → IsSetup s → KeptOffers s (opening_configuration s) (opening_world s)
 opening_kept s setup =
     let id = txid s.hash (opening_transaction (opening_outputs s)) in
-    let none : (n : ℕ) (h : ContractPosition) → live_position_at (opening_world s) n ≡ Some h → ⊥ = λ n h e. let e' = none_held id 0 n (opening_outputs s) in cc in
+    let none : (n : ℕ) (h : ContractPosition) → live_position_at (opening_world s) n ≡ Some h → ⊥ =
+    λ n h e. let e' = none_held id 0 n (opening_outputs s) in cc in
     record {
       constant = record { parties = refl; honest = refl; contracts = refl };
       height = omega arith;
@@ -181,7 +182,8 @@ extends_offers s g g' w next kept more constant outs book tip ei eb stays bindin
       let q = same k r.0 st r.1 c in
       let cw : compiled_instance s w k ≡ Some st = subst (λ (y : Instance). compiled_instance s w k ≡ Some y) q r.1 in
       let b = bindings k (compiled_is s w k st cw).advertised in
-      let lw : is_bound_live w k d ≡ true = by_number (look_up (d.0) (bindings_at w.advertised k)) (subst (λ bs. names_deposit next (look_up (d.0) bs) ≡ true) b l) in
+      let lw : is_bound_live w k d ≡ true =
+      by_number (look_up (d.0) (bindings_at w.advertised k)) (subst (λ bs. names_deposit next (look_up (d.0) bs) ≡ true) b l) in
       subst (λ x. has_signed x (deposit_key s.hash (d.1).owner)
       (digest_of_spent s.hash (tx_of (initial_unsigned s.hash st)) (deposit s.hash st (d.0) (d.1))) ≡ true) (sym book) (more.inits k st d cw i o lw);
   asked = λ n i a h st here choice b e c p t q x.

@@ -66,7 +66,8 @@ module _ (s : Setup) (z : List (List ℕ)) (g : Configuration) (w : World) (kept
       by_verdict (verdicts.Accepted spent made) h = accepted_every tx spent (accepted_by s w tx spent made h) e endorsed
 
 -- a transaction whose signatures come with it, and which begins no contract; what is kept may rest on what it hashes
-module _ (s : Setup) (z : List (List ℕ)) (g : Configuration) (w : World) (kept : KeptBook s g w) (more : KeptOffers s g w) (pairs : List Pair) (known : List (List ℕ)) (signed : KeptBook s g (record (with_pairs w pairs) { hashed = known })) where
+module _ (s : Setup) (z : List (List ℕ)) (g : Configuration) (w : World) (kept : KeptBook s g w) (more : KeptOffers s g w)
+    (pairs : List Pair) (known : List (List ℕ)) (signed : KeptBook s g (record (with_pairs w pairs) { hashed = known })) where
   abbrev book : List Pair
   book = signed_all w.book pairs
 
@@ -93,12 +94,16 @@ module _ (s : Setup) (z : List (List ℕ)) (g : Configuration) (w : World) (kept
       let next = applied w (accepted s (with_pairs w pairs) tx spent) in
       let there = applied seen (accepted s seen tx spent) in
       let none : initial_of s seen tx ≡ None = initial_same s w book known tx 0 s.contracts ∙ begins in
-      let k : KeptOffers s (after_steps g (accepted_steps s g seen there spent (Some tx))) there = accepted_every s z g seen signed seen_more tx spent is e (λ k st i c. let q = sym none ∙ i in cc) in
-      let same : accepted_steps s g seen there spent (Some tx) ≡ accepted_steps s g w next spent (Some tx) = steps_same s w book known g there spent (Some tx) in
-      let after_w : KeptOffers s (after_steps g (accepted_steps s g w next spent (Some tx))) there = subst (λ xs. KeptOffers s (after_steps g xs) there) same k in
+      let k : KeptOffers s (after_steps g (accepted_steps s g seen there spent (Some tx))) there =
+      accepted_every s z g seen signed seen_more tx spent is e (λ k st i c. let q = sym none ∙ i in cc) in
+      let same : accepted_steps s g seen there spent (Some tx) ≡ accepted_steps s g w next spent (Some tx) =
+      steps_same s w book known g there spent (Some tx) in
+      let after_w : KeptOffers s (after_steps g (accepted_steps s g w next spent (Some tx))) there =
+      subst (λ xs. KeptOffers s (after_steps g xs) there) same k in
       let g' = after_steps g (accepted_steps s g w next spent (Some tx)) in
       let heard = noted_all w.hashed (strings_of s w tx ++ items_of tx) in
-      let changed : KeptOffers s g' (entered tx spent heard (kind_of s seen tx spent)) = quiet_offers s g' g' there book heard (w.posted ++ items_of tx) after_w after_w.constant (λ x d h. h) refl refl in
+      let changed : KeptOffers s g' (entered tx spent heard (kind_of s seen tx spent)) =
+      quiet_offers s g' g' there book heard (w.posted ++ items_of tx) after_w after_w.constant (λ x d h. h) refl refl in
       subst (λ kind. KeptOffers s g' (entered tx spent heard kind)) (kind_same s w book known tx spent ∙ sym (kind_same s w book w.hashed tx spent)) changed
 
   pub given_every : (e : Event) (tx : Tx) → initial_of s w tx ≡ None

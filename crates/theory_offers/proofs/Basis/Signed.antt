@@ -54,10 +54,12 @@ with_branch-split xs party n i m j a h = by_test (has_branch_authorised xs n i p
     by_test : (b : Bool) → has_branch_authorised (cond b xs (xs ++ record { party = party; output = n; branch = i } ∷ [])) m j a ≡ true
         → (has_branch_authorised xs m j a ≡ true) ⊎ ((party ≡ a) × (n ≡ m) × (i ≡ j))
     by_test true q = inl q
-    by_test false q = elim (or_cases _ _ (sym (any-append (λ (x : BranchAuthorisation). bytes_eq x.party a && (x.output == m) && (x.branch == j)) xs (record { party = party; output = n; branch = i } ∷ [])) ∙ q)) [
-      | inl x ↦ inl x
-      | inr x ↦ elim (or_cases (bytes_eq party a && (n == m) && (i == j)) false x) [ inl y ↦ new y | inr y ↦ cc ]
-    ]
+    by_test false q =
+        elim (or_cases _ _ (sym (any-append (λ (x : BranchAuthorisation). bytes_eq x.party a && (x.output == m) && (x.branch == j)) xs
+        (record { party = party; output = n; branch = i } ∷ [])) ∙ q)) [
+          | inl x ↦ inl x
+          | inr x ↦ elim (or_cases (bytes_eq party a && (n == m) && (i == j)) false x) [ inl y ↦ new y | inr y ↦ cc ]
+        ]
 
 pub authorise_offers : (s : Setup) (g : Configuration) (w : World) (party : List ℕ) (n i : ℕ) (hashed posted : List (List ℕ))
     → KeptOffers s g w → is_some (output_at w n) ≡ true
@@ -69,7 +71,10 @@ authorise_offers s g w party n i hashed posted more there =
     (record { parties = more.constant.parties; honest = more.constant.honest; contracts = more.constant.contracts })
     (λ k d h. signed_more w.book ps k d h)
     (λ k x h. inl h)
-    (λ m j a h. elim (with_branch-split g.branch_authorised party n i m j a h) [ inl x ↦ inl x | inr x ↦ inr (subst (λ y. is_some (output_at w y) ≡ true) x.1 there) ])
+    (λ m j a h. elim (with_branch-split g.branch_authorised party n i m j a h) [
+      | inl x ↦ inl x
+      | inr x ↦ inr (subst (λ y. is_some (output_at w y) ≡ true) x.1 there)
+    ])
     (λ k st d c j a l. inl a)
     (λ m j a h st here choice b e c p t q r. elim (with_branch-split g.branch_authorised party n i m j a r) [
       | inl x ↦ inl x
@@ -85,10 +90,14 @@ authorise_offers s g w party n i hashed posted more there =
     new m j a h st here choice b e c p t ea en ei =
         let key = key_of s.hash (branch_label h.contract (h.position ++ To j ∷ []) a) in
         let dg = digest_of_spent s.hash (tx_of (branch_unsigned s.hash st here j b)) here.output in
-        let d : prepared_at s.hash st (h.position ++ To j ∷ []) ≡ Some (prepared s.hash (branch_unsigned s.hash st here j b)) = ap (option_map (prepared s.hash)) (unsigned_of_branch s.hash st h.position here choice j b p t) in
-        let f : prepared_if_compiled s (compiled_instance s w h.contract) (h.position ++ To j ∷ []) ≡ Some (prepared s.hash (branch_unsigned s.hash st here j b)) = ap (λ o. prepared_if_compiled s o (h.position ++ To j ∷ [])) c ∙ d in
+        let d : prepared_at s.hash st (h.position ++ To j ∷ []) ≡ Some (prepared s.hash (branch_unsigned s.hash st here j b)) =
+        ap (option_map (prepared s.hash)) (unsigned_of_branch s.hash st h.position here choice j b p t) in
+        let f : prepared_if_compiled s (compiled_instance s w h.contract) (h.position ++ To j ∷ [])
+        ≡ Some (prepared s.hash (branch_unsigned s.hash st here j b)) =
+        ap (λ o. prepared_if_compiled s o (h.position ++ To j ∷ [])) c ∙ d in
         let pairs : authorising_pairs s w party (live_position_at w n) i ≡ (key, dg) ∷ [] =
-        (λ x. authorising_pairs s w (ea x) (live_position_at w (en x)) (ei x)) ∙ ap (λ o. authorising_pairs s w a o j) e ∙ ap (branch_pair s a h.contract (h.position ++ To j ∷ [])) f in
+        (λ x. authorising_pairs s w (ea x) (live_position_at w (en x)) (ei x))
+        ∙ ap (λ o. authorising_pairs s w a o j) e ∙ ap (branch_pair s a h.contract (h.position ++ To j ∷ [])) f in
         subst (λ xs. has_signed xs key dg ≡ true) (sym pairs) (or_left _ _ (and_from _ _ (bytes_refl key) (bytes_refl dg)))
 
 -- ---- an initial transaction
@@ -103,10 +112,12 @@ with_init-split xs k x j y h = by_test (is_init_authorised xs k x) h
     by_test : (b : Bool) → is_init_authorised (cond b xs (xs ++ record { contract = k; deposit = x } ∷ [])) j y ≡ true
         → (is_init_authorised xs j y ≡ true) ⊎ ((k ≡ j) × (x ≡ y))
     by_test true q = inl q
-    by_test false q = elim (or_cases _ _ (sym (any-append (λ (a : InitAuthorisation). (a.contract == j) && bytes_eq a.deposit y) xs (record { contract = k; deposit = x } ∷ [])) ∙ q)) [
-      | inl u ↦ inl u
-      | inr u ↦ elim (or_cases ((k == j) && bytes_eq x y) false u) [ inl v ↦ new v | inr v ↦ cc ]
-    ]
+    by_test false q =
+        elim (or_cases _ _
+        (sym (any-append (λ (a : InitAuthorisation). (a.contract == j) && bytes_eq a.deposit y) xs (record { contract = k; deposit = x } ∷ [])) ∙ q)) [
+          | inl u ↦ inl u
+          | inr u ↦ elim (or_cases ((k == j) && bytes_eq x y) false u) [ inl v ↦ new v | inr v ↦ cc ]
+        ]
 
 all_inits-split : (xs : List InitAuthorisation) (k : ℕ) (ds : List (List ℕ × Holding)) (j : ℕ) (y : List ℕ) → is_init_authorised (init_all xs k ds) j y ≡ true
     → (is_init_authorised xs j y ≡ true) ⊎ ((k ≡ j) × ((d : List ℕ × Holding) × Is_in d ds × (d.0 ≡ y)))
@@ -180,7 +191,10 @@ init_offers s g w k party hashed posted more st c apart =
     (signs_offers s g (record g { init_authorised = init_all g.init_authorised k ds }) w (signed_all w.book ps) hashed posted more
     (record { parties = more.constant.parties; honest = more.constant.honest; contracts = more.constant.contracts })
     (λ a d h. signed_more w.book ps a d h)
-    (λ j x h. elim (all_inits-split g.init_authorised k ds j x h) [ inl y ↦ inl y | inr y ↦ inr (subst (λ m. is_some (compiled_instance s w m) ≡ true) y.0 (ap is_some c)) ])
+    (λ j x h. elim (all_inits-split g.init_authorised k ds j x h) [
+      | inl y ↦ inl y
+      | inr y ↦ inr (subst (λ m. is_some (compiled_instance s w m) ≡ true) y.0 (ap is_some c))
+    ])
     (λ n i a h. inl h)
     (λ j su d cj i a l. elim (all_inits-split g.init_authorised k ds j (d.0) a) [
       | inl x ↦ inl x
@@ -205,7 +219,13 @@ init_offers s g w k party hashed posted more st c apart =
         let o : (e.1).owner ≡ party = bytes-true (e.1).owner party (and_parts (is_of_party party e) (is_bound_live w k e) r.1).0 in
         let od : (d.1).owner ≡ party = ap (λ (v : List ℕ × Holding). (v.1).owner) (sym ed) ∙ o in
         let p = pair_there s st party (tx_of (initial_unsigned s.hash st)) (persistent st.advert.pre) d id od in
-        let q : has_signed (initial_pairs s party (compiled_instance s w k)) (deposit_key s.hash party) (digest_of_spent s.hash (tx_of (initial_unsigned s.hash st)) (deposit s.hash st (d.0) (d.1))) ≡ true = ap (λ x. has_signed (initial_pairs s party x) (deposit_key s.hash party) (digest_of_spent s.hash (tx_of (initial_unsigned s.hash st)) (deposit s.hash st (d.0) (d.1)))) c ∙ p in
-        let u : has_signed (initial_pairs s party (compiled_instance s w k)) (deposit_key s.hash (d.1).owner) (digest_of_spent s.hash (tx_of (initial_unsigned s.hash st)) (deposit s.hash st (d.0) (d.1))) ≡ true = subst (λ x. has_signed (initial_pairs s party (compiled_instance s w k)) (deposit_key s.hash x) (digest_of_spent s.hash (tx_of (initial_unsigned s.hash st)) (deposit s.hash st (d.0) (d.1))) ≡ true) (sym od) q in
+        let q : has_signed (initial_pairs s party (compiled_instance s w k))
+        (deposit_key s.hash party) (digest_of_spent s.hash (tx_of (initial_unsigned s.hash st)) (deposit s.hash st (d.0) (d.1))) ≡ true =
+        ap (λ x. has_signed (initial_pairs s party x)
+        (deposit_key s.hash party) (digest_of_spent s.hash (tx_of (initial_unsigned s.hash st)) (deposit s.hash st (d.0) (d.1)))) c ∙ p in
+        let u : has_signed (initial_pairs s party (compiled_instance s w k))
+        (deposit_key s.hash (d.1).owner) (digest_of_spent s.hash (tx_of (initial_unsigned s.hash st)) (deposit s.hash st (d.0) (d.1))) ≡ true =
+        subst (λ x. has_signed (initial_pairs s party (compiled_instance s w k)) (deposit_key s.hash x)
+        (digest_of_spent s.hash (tx_of (initial_unsigned s.hash st)) (deposit s.hash st (d.0) (d.1))) ≡ true) (sym od) q in
         subst (λ (y : Instance). has_signed (initial_pairs s party (compiled_instance s w k)) (deposit_key s.hash (d.1).owner)
         (digest_of_spent s.hash (tx_of (initial_unsigned s.hash y)) (deposit s.hash y (d.0) (d.1))) ≡ true) (sym same) u

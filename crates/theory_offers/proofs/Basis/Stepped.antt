@@ -152,11 +152,13 @@ module _ (s : Setup) (g : Configuration) (w : World) (kept : KeptBook s g w) (tx
     pub is_gone : bare tx ≡ bare (tx_of (initial_unsigned s.hash st)) → is_bound_live next k d ≡ false
     is_gone e =
         let acc = accepting s w tx spent is in
-        let j = bare_in (map input_of (persistent_deposits s.hash st)) tx.inputs (input_of (deposit s.hash st (d.0) (d.1))) (sym (ap (λ (y : Tx). y.inputs) e)) (spends_in s.hash st (persistent st.advert.pre) d i) in
+        let j = bare_in (map input_of (persistent_deposits s.hash st)) tx.inputs
+        (input_of (deposit s.hash st (d.0) (d.1))) (sym (ap (λ (y : Tx). y.inputs) e)) (spends_in s.hash st (persistent st.advert.pre) d i) in
         let r = spent_at s w tx spent tx.inputs j.0 acc.spends j.1 in
         let m : at.number ≡ r.0 = kept.apart at.number r.0 at.bound.output r.2.output at.bound.there r.2.there (sym at.outpoint ∙ sym j.2 ∙ r.2.outpoint) in
         let z : at.number + 0 ≡ at.number = omega arith in
         let t : has_number (at.number + 0) spent ≡ true = rw (z, m) r.1 in
-        let o : slice_get (spend_from 0 spent w.outputs) at.number ≡ Some (record at.bound.output { live = false }) = get-spent 0 at.number spent w.outputs ∙ ap (option_map _) at.bound.there ∙ rw t refl in
+        let o : slice_get (spend_from 0 spent w.outputs) at.number ≡ Some (record at.bound.output { live = false }) =
+        get-spent 0 at.number spent w.outputs ∙ ap (option_map _) at.bound.there ∙ rw t refl in
         let f = get-prefix (spend_from 0 spent w.outputs) news at.number (record at.bound.output { live = false }) o in
         ap (names_deposit next) looked ∙ ap is_deposit f

@@ -44,7 +44,8 @@ one_of P (y ∷ xs) (suc n) x h e = one_of P xs n x h.1 e
 bindings_last : (xs : List Advertised) (k : ℕ) (bs : List (List ℕ × ℕ)) → list_any (λ (a : Advertised). a.contract == k) xs ≡ false
     → bindings_at (xs ++ record { contract = k; bindings = bs } ∷ []) k ≡ bs
 bindings_last [] k bs h = let z = eq-eqb k k refl in rw z refl
-bindings_last (x ∷ xs) k bs h = let p = or_parts (x.contract == k) (list_any (λ (a : Advertised). a.contract == k) xs) h in let z = p.0 in rw z (bindings_last xs k bs p.1)
+bindings_last (x ∷ xs) k bs h =
+    let p = or_parts (x.contract == k) (list_any (λ (a : Advertised). a.contract == k) xs) h in let z = p.0 in rw z (bindings_last xs k bs p.1)
 
 -- each of them is bound to an output that was made
 made_arranged : (w : World) (names : List (List ℕ)) (bs : List (List ℕ × ℕ)) → is_some (not_live w bs) ≡ false
@@ -62,7 +63,8 @@ made_arranged w (m ∷ names) bs live h =
 
 module _ (s : Setup) (size : HashesBytes s.hash) (few_contracts : length s.contracts ≤ 16) (strings : List (List ℕ)) (g : Configuration)
     (w : World) (kept : KeptBook s g w) (check : Checked s w) (clear : NoCollision s.hash w.hashed)
-    (well : AllByRecursion IsWellFormed s.contracts) (told : (k : ℕ) (a : List ℕ) → has_promised w k a ≡ true → is_advertised w k ≡ true) (contract : ℕ) (bindings : List (List ℕ × ℕ)) where
+    (well : AllByRecursion IsWellFormed s.contracts)
+    (told : (k : ℕ) (a : List ℕ) → has_promised w k a ≡ true → is_advertised w k ≡ true) (contract : ℕ) (bindings : List (List ℕ × ℕ)) where
   abbrev names : List (List ℕ)
   names = deposit_names s contract
 
@@ -78,10 +80,12 @@ module _ (s : Setup) (size : HashesBytes s.hash) (few_contracts : length s.contr
       compiled_stays s w next (entry ∷ []) [] k st refl (sym (append-nil w.promises)) (lasts_refl w.outputs) (kept.adverts k c.advertised).made refl h
 
   the_new : (k : ℕ) → is_advertised next k ≡ true → is_advertised w k ≡ false → contract ≡ k
-  the_new k h f = elim (or_cases (is_advertised w k) (list_any (λ (a : Advertised). a.contract == k) (entry ∷ [])) (sym (any-append (λ (a : Advertised). a.contract == k) w.advertised (entry ∷ [])) ∙ h)) [
-    | inl x ↦ absurd (both_ways _ f x)
-    | inr y ↦ elim (or_cases (contract == k) false y) [ inl u ↦ eqb-true contract k u | inr v ↦ cc ]
-  ]
+  the_new k h f =
+      elim (or_cases (is_advertised w k) (list_any (λ (a : Advertised). a.contract == k) (entry ∷ []))
+      (sym (any-append (λ (a : Advertised). a.contract == k) w.advertised (entry ∷ [])) ∙ h)) [
+        | inl x ↦ absurd (both_ways _ f x)
+        | inr y ↦ elim (or_cases (contract == k) false y) [ inl u ↦ eqb-true contract k u | inr v ↦ cc ]
+      ]
 
   module _ (row : NoneTrue (advertise_row s w contract bindings)) where
     found : (a : Advert) × (contract_at s contract ≡ Some a)
@@ -89,7 +93,8 @@ module _ (s : Setup) (size : HashesBytes s.hash) (few_contracts : length s.contr
 
     looked : list_all (λ m. is_some (look_up m bindings)) names ≡ true
     looked =
-        let p = and_parts (are_different (names_of bindings) && list_all (λ n. is_among n names) (names_of bindings)) (list_all (λ n. is_among n (names_of bindings)) names) (not-false _ row.1.1.0) in
+        let p = and_parts (are_different (names_of bindings) && list_all (λ n. is_among n names) (names_of bindings))
+        (list_all (λ n. is_among n (names_of bindings)) names) (not-false _ row.1.1.0) in
         all_looked bindings names p.1
 
     bindings_are : bindings_at next.advertised contract ≡ arranged 0 names bindings
@@ -108,7 +113,8 @@ module _ (s : Setup) (size : HashesBytes s.hash) (few_contracts : length s.contr
     bound_one : (name : List ℕ) (h : Holding) → Is_in (name, h) (deposits (pre_at s contract)) → (n : ℕ)
         × (look_up name (arranged 0 names bindings) ≡ Some n) × IsBound s next h n
     bound_one name h i =
-        let r = some_there (look_up name (arranged 0 names bindings)) (some_arranged names bindings name (in_named (deposits (pre_at s contract)) (name, h) i)) in
+        let r = some_there (look_up name (arranged 0 names bindings))
+        (some_arranged names bindings name (in_named (deposits (pre_at s contract)) (name, h) i)) in
         let l = look_arranged names bindings name r.0 looked r.1 in
         let su = suits_looked s w contract bindings name r.0 row.1.1.1.1.1.0 l in
         let b = suits_bound s w h r.0 (subst (λ o. suits s o (output_at w r.0) ≡ true) (deposit_looked (pre_at s contract) (name, h) differ i) su) in
@@ -119,7 +125,10 @@ module _ (s : Setup) (size : HashesBytes s.hash) (few_contracts : length s.contr
       advert = found.0;
       there = found.1;
       made = subst (λ bs. are_made next bs ≡ true) (sym bindings_are) (made_arranged w names bindings row.1.1.1.1.0 looked);
-      bound = λ name h i. let r = bound_one name h (subst (λ pre. Is_in (name, h) (deposits pre)) (sym pre_is) i) in (r.0, subst (λ bs. look_up name bs ≡ Some r.0) (sym bindings_are) r.1, r.2);
+      bound =
+          λ name h i.
+          let r = bound_one name h (subst (λ pre. Is_in (name, h) (deposits pre)) (sym pre_is) i) in
+          (r.0, subst (λ bs. look_up name bs ≡ Some r.0) (sym bindings_are) r.1, r.2);
       apart = λ x y n p q. one_name [] bindings x y n row.1.1.1.0
           (look_arranged names bindings x n looked (subst (λ bs. look_up x bs ≡ Some n) bindings_are p))
           (look_arranged names bindings y n looked (subst (λ bs. look_up y bs ≡ Some n) bindings_are q));
@@ -130,7 +139,8 @@ module _ (s : Setup) (size : HashesBytes s.hash) (few_contracts : length s.contr
     no_others : (k : ℕ) (st : Instance) → compiled_instance s next k ≡ Some st → compiled_instance s w k ≡ Some st
     no_others k st h =
         let c = compiled_is s next k st h in
-        let x : compiled_instance s w k ≡ Some (instance_of w k c.advert) = compiled_from s w k c.advert c.there (by_old c.advert c.there c.promised c.advertised (is_advertised w k) refl) c.promised in
+        let x : compiled_instance s w k ≡ Some (instance_of w k c.advert) =
+        compiled_from s w k c.advert c.there (by_old c.advert c.there c.promised c.advertised (is_advertised w k) refl) c.promised in
         let y : compiled_instance s next k ≡ Some (instance_of w k c.advert) = stays k (instance_of w k c.advert) x in
         x ∙ sym y ∙ h
       where

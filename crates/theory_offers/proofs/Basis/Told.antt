@@ -54,7 +54,11 @@ pub commit_offers : (s : Setup) (g g' : Configuration) (w : World) (k : ℕ) (pa
     })
 commit_offers s g g' w k party entries hashed posted kept more constant ei eb adv part fresh =
     let new : Promise = record { contract = k; party = party; digests = arranged [] (secrets_at s k party) entries } in
-    let next : World = record w { promises = w.promises ++ record { contract = k; party = party; digests = arranged [] (secrets_at s k party) entries } ∷ []; hashed = hashed; posted = posted } in
+    let next : World = record w {
+      promises = w.promises ++ record { contract = k; party = party; digests = arranged [] (secrets_at s k party) entries } ∷ [];
+      hashed = hashed;
+      posted = posted;
+    } in
     extends_offers s g g' w next kept more constant refl refl refl ei eb
     (λ j st h. compiled_stays s w next [] (new ∷ []) j st (sym (append-nil w.advertised)) refl (lasts_refl w.outputs)
     (kept.adverts j (compiled_is s w j st h).advertised).made (or_from _ _ (others j st h) refl) h)
@@ -69,7 +73,9 @@ commit_offers s g g' w k party entries hashed posted kept more constant ei eb ad
     (λ p name i h. elim (in_joined w.promises (new ∷ []) p i) [
       | inl x ↦ more.named p name x h
       | inr x ↦ elim x [
-        | inl e ↦ (let q : is_some (look_up name (arranged [] (secrets_at s k party) entries)) ≡ true = subst (λ (y : Promise). is_some (look_up name y.digests) ≡ true) e h in subst (λ (y : Promise). is_among name (secrets_at s y.contract y.party) ≡ true) (sym e) (let y = some_there _ q in arranged_named [] (secrets_at s k party) entries name y.0 y.1))
+        | inl e ↦ (let q : is_some (look_up name (arranged [] (secrets_at s k party) entries)) ≡ true =
+            subst (λ (y : Promise). is_some (look_up name y.digests) ≡ true) e h in subst (λ (y : Promise). is_among name (secrets_at s y.contract y.party)
+            ≡ true) (sym e) (let y = some_there _ q in arranged_named [] (secrets_at s k party) entries name y.0 y.1))
         | inr e ↦ absurd e
       ]
     ])
@@ -79,6 +85,7 @@ commit_offers s g g' w k party entries hashed posted kept more constant ei eb ad
     others j st h = false_from_ne_true _ (λ t.
         let e = eqb-true k j t in
         let c = compiled_is s w j st h in
-        let there : is_among party (participants c.advert) ≡ true = ap (λ o. is_among party (people_of o)) (sym c.there) ∙ subst (λ m. is_among party (people_at s m) ≡ true) e part in
+        let there : is_among party (participants c.advert) ≡ true =
+        ap (λ o. is_among party (people_of o)) (sym c.there) ∙ subst (λ m. is_among party (people_at s m) ≡ true) e part in
         let p = all_among (has_promised w j) (participants c.advert) party c.promised there in
         both_ways _ (subst (λ m. has_promised w m party ≡ false) e fresh) p)

@@ -75,7 +75,8 @@ goes a b h k = by_tx (same_bare a.tx b.tx) refl
 
     by_tx : (t : Bool) → same_bare a.tx b.tx ≡ t → Goes a b
     by_tx true e = by_inputs (first_conflict 0 a.inputs b.inputs) refl (tx_same a.tx b.tx (sound a h).unsigned (sound b k).unsigned e) (rw e refl)
-    by_tx false e = other (λ same. let own : same_bare a.tx b.tx ≡ true = subst (λ (x : Tx). same_bare a.tx x ≡ true) same (tx_own a.tx) in absurd cc) (rw e refl)
+    by_tx false e =
+        other (λ same. let own : same_bare a.tx b.tx ≡ true = subst (λ (x : Tx). same_bare a.tx x ≡ true) same (tx_own a.tx) in absurd cc) (rw e refl)
 
 -- ---- both ways round
 
@@ -125,7 +126,9 @@ combined_both_ways a b p h k e = by_way (goes a b h k)
         let count : length a.inputs ≡ length b.inputs = sa.count ∙ ap (λ (x : Tx). length x.inputs) same ∙ sym sb.count in
         let inputs = inputs_back 0 a.inputs b.inputs count sa.ascend sb.ascend f in
         let back : combined b a ≡ answer (record { tx = b.tx; inputs = inputs_joined b.inputs a.inputs }) = rw (tests, none) refl in
-        let equal : answer (record { tx = b.tx; inputs = inputs_joined b.inputs a.inputs }) ≡ answer (record { tx = a.tx; inputs = inputs_joined a.inputs b.inputs }) = λ i. answer (record { tx = sym same i; inputs = sym inputs i }) in
+        let equal : answer (record { tx = b.tx; inputs = inputs_joined b.inputs a.inputs })
+        ≡ answer (record { tx = a.tx; inputs = inputs_joined a.inputs b.inputs }) =
+        λ i. answer (record { tx = sym same i; inputs = sym inputs i }) in
         back ∙ equal ∙ sym q ∙ e
 
 -- ---- why two can't be combined
@@ -174,7 +177,9 @@ conflict_apart n m (x ∷ xs) (y ∷ ys) h g asc e = by_test (inputs_differ x y)
   where
     by_test : (t : Bool) → inputs_differ x y ≡ t → here_or n xs ys t ≡ Some m
         → (first_conflict (n + 1) xs ys ≡ Some m → Found (n + 1) m xs ys) → Found n m (x ∷ xs) (y ∷ ys)
-    by_test true d q later = let here : n ≡ m = some_is n m q in record { place = zero; is = omega (arith, here); apart = differ_are_apart x y h.0 g.0 (and_left _ _ asc) d }
+    by_test true d q later =
+        let here : n ≡ m = some_is n m q in
+        record { place = zero; is = omega (arith, here); apart = differ_are_apart x y h.0 g.0 (and_left _ _ asc) d }
     by_test false d q later = let f = later q in record { place = suc f.place; is = omega (arith, f.is); apart = (calm_not_apart x y d, f.apart) }
 
 pub conflict_exactly : (a b : Psbt) (k : ℕ) → IsFitting a → IsFitting b

@@ -29,7 +29,9 @@ same_truth false true f g = g refl
 same_truth false false f g = refl
 
 test_back : {A : Type 0} (f : A → A → Bool) → IsTest f → (x y : A) → f x y ≡ f y x
-test_back {A} f t x y = same_truth _ _ (λ h. let e = t.yes x y h in subst (λ (z : A). f z x ≡ true) e (t.own x)) (λ h. let e = t.yes y x h in subst (λ (z : A). f z y ≡ true) e (t.own y))
+test_back {A} f t x y =
+    same_truth _ _ (λ h. let e = t.yes x y h in subst (λ (z : A). f z x ≡ true) e (t.own x))
+    (λ h. let e = t.yes y x h in subst (λ (z : A). f z y ≡ true) e (t.own y))
 
 odds_back : {A : Type 0} (f : A → A → Bool) → IsTest f → (o q : Option A) → are_at_odds f o q ≡ are_at_odds f q o
 odds_back f t (Some x) (Some y) = ap not (test_back f t x y)
@@ -57,7 +59,13 @@ record Both {A : Type 0} (o q : Option A) : Type 0 where
   differ : one ≡ other → ⊥
 
 odds_both : {A : Type 0} (f : A → A → Bool) → IsTest f → (o q : Option A) → are_at_odds f o q ≡ true → Both o q
-odds_both {A} f t (Some x) (Some y) h = record { one = x; other = y; here = refl; there = refl; differ = λ e. let own : f x y ≡ true = subst (λ (z : A). f x z ≡ true) e (t.own x) in absurd cc }
+odds_both {A} f t (Some x) (Some y) h = record {
+  one = x;
+  other = y;
+  here = refl;
+  there = refl;
+  differ = λ e. let own : f x y ≡ true = subst (λ (z : A). f x z ≡ true) e (t.own x) in absurd cc;
+}
 odds_both f t (Some x) None h = absurd cc
 odds_both f t None q h = absurd cc
 

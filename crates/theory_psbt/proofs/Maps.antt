@@ -93,7 +93,8 @@ read_again (r ∷ rs) (suc n) rest h lt =
     let c = count_begins (length (r.0)) (eqb-false _ _ h.0.some) in
     let behind = sized (r.1) ++ (map_bytes rs ++ rest) in
     let begins : map_bytes (r ∷ rs) ++ rest ≡ c.head ∷ ((c.tail ++ r.0) ++ behind) = map_parts r rs rest ∙ sized_begins (r.0) behind c in
-    let key : taken (string_at (c.head ∷ ((c.tail ++ r.0) ++ behind))) ≡ some (r.0, behind) = ap (λ (l : List ℕ). taken (string_at l)) (sym (sized_begins (r.0) behind c)) ∙ string_taken (r.0) behind h.0.key in
+    let key : taken (string_at (c.head ∷ ((c.tail ++ r.0) ++ behind))) ≡ some (r.0, behind) =
+    ap (λ (l : List ℕ). taken (string_at l)) (sym (sized_begins (r.0) behind c)) ∙ string_taken (r.0) behind h.0.key in
     let value : taken (string_at behind) ≡ some (r.1, map_bytes rs ++ rest) = string_taken (r.1) (map_bytes rs ++ rest) h.0.value in
     let others : records_at n (map_bytes rs ++ rest) ≡ some (rs, rest) = read_again rs n rest h.1 (omega arith) in
     ap (records_at (suc n)) begins ∙ more_at n c.head ((c.tail ++ r.0) ++ behind) c.some ∙ rw (key, value, others) refl
@@ -103,7 +104,8 @@ enough : (records : List Pairing) → length records < length (map_bytes records
 enough [] = omega arith
 enough (r ∷ rs) =
     let parts : length (map_bytes (r ∷ rs)) ≡ length (pairing_bytes r) + length (map_bytes rs) =
-    ap (λ (l : List ℕ). length (l ++ 0 ∷ [])) (flat_map-cons pairing_bytes r rs) ∙ ap length (append_assoc (pairing_bytes r) (flat_map pairing_bytes rs) (0 ∷ [])) ∙ length-append (pairing_bytes r) (map_bytes rs) in
+    ap (λ (l : List ℕ). length (l ++ 0 ∷ [])) (flat_map-cons pairing_bytes r rs)
+    ∙ ap length (append_assoc (pairing_bytes r) (flat_map pairing_bytes rs) (0 ∷ [])) ∙ length-append (pairing_bytes r) (map_bytes rs) in
     omega (arith, parts, enough rs, length-append (sized (r.0)) (sized (r.1)), length-append (compact (length (r.0))) (r.0), count_some (length (r.0)))
 
 pub map_again : (records : List Pairing) (rest : List ℕ) → IsMap records → map_at (map_bytes records ++ rest) ≡ some (records, rest)
@@ -116,7 +118,8 @@ pub maps_again : (maps : List (List Pairing)) (rest : List ℕ) → AllByRecursi
 unfolding maps_at
 maps_again [] rest h = refl
 maps_again (m ∷ ms) rest h =
-    let parts : flat_map map_bytes (m ∷ ms) ++ rest ≡ map_bytes m ++ (flat_map map_bytes ms ++ rest) = ap (λ (l : List ℕ). l ++ rest) (flat_map-cons map_bytes m ms) ∙ append_assoc (map_bytes m) (flat_map map_bytes ms) rest in
+    let parts : flat_map map_bytes (m ∷ ms) ++ rest ≡ map_bytes m ++ (flat_map map_bytes ms ++ rest) =
+    ap (λ (l : List ℕ). l ++ rest) (flat_map-cons map_bytes m ms) ∙ append_assoc (map_bytes m) (flat_map map_bytes ms) rest in
     rw (parts, map_again m (flat_map map_bytes ms ++ rest) h.0, maps_again ms rest h.1) refl
 
 -- ---- what is read is spelled
@@ -255,5 +258,10 @@ maps_read (suc n) bytes x fits e =
     f.parts ∙ ap (λ (l : List ℕ). map_bytes (c.first.0) ++ l) others.parts
     ∙ sym (append_assoc (map_bytes (c.first.0)) (flat_map map_bytes (o.first.0)) (o.first.1))
     ∙ ap (λ (l : List ℕ). l ++ o.first.1) (sym (flat_map-cons map_bytes (c.first.0) (o.first.0))) in
-    let m : Maps_read (suc n) bytes (c.first.0 ∷ o.first.0) (o.first.1) = record { count = ap suc others.count; parts = parts; each = (f.is, others.each); fits = others.fits } in
+    let m : Maps_read (suc n) bytes (c.first.0 ∷ o.first.0) (o.first.1) = record {
+      count = ap suc others.count;
+      parts = parts;
+      each = (f.is, others.each);
+      fits = others.fits;
+    } in
     subst (λ (y : List (List Pairing) × List ℕ). Maps_read (suc n) bytes (y.0) (y.1)) all m

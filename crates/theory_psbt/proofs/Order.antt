@@ -83,7 +83,8 @@ before_after (x ∷ xs) (y ∷ ys) (z ∷ zs) h k = by_heads (heads_of x y) (hea
     by_heads (above p) other later = let e = step_above x y xs ys p in absurd cc
 
 pub apart_before : (a b : List ℕ) → is_before a b ≡ true → bytes_eq a b ≡ false
-apart_before a b h = not_same a b (λ e. let k : is_before a a ≡ true = subst (λ (x : List ℕ). is_before a x ≡ true) (sym e) h in let n = before_itself a in absurd cc)
+apart_before a b h =
+    not_same a b (λ e. let k : is_before a a ≡ true = subst (λ (x : List ℕ). is_before a x ≡ true) (sym e) h in let n = before_itself a in absurd cc)
 
 pub apart_after : (a b : List ℕ) → is_before a b ≡ true → bytes_eq b a ≡ false
 apart_after a b h = not_same b a (λ e. let k : is_before a a ≡ true = subst (λ (x : List ℕ). is_before a x ≡ true) e h in let n = before_itself a in absurd cc)

@@ -84,7 +84,8 @@ stripped_is_bytes tx h =
 
 pub output_again : (o : TxOut) → IsOutput o → output_of (output_bytes o) ≡ some o
 output_again o h =
-    let e : output_at (output_bytes o) ≡ Ok (o, []) = ap output_at (sym (append-nil (output_bytes o))) ∙ an_output.again (output_bytes o) [] o (record { same = refl; fits = h }) in
+    let e : output_at (output_bytes o) ≡ Ok (o, []) =
+    ap output_at (sym (append-nil (output_bytes o))) ∙ an_output.again (output_bytes o) [] o (record { same = refl; fits = h }) in
     rw e refl
 
 stack_to : (text : List ℕ) (items : List (List ℕ)) → Seq (Count any) (Are sized IsString) text items → Is witness_bytes IsStack text items
@@ -111,7 +112,11 @@ the_stack = transfer (Seq (Count any) (Are sized IsString)) (Is witness_bytes Is
 
 pub witness_again : (items : List (List ℕ)) → IsStack items → witness_of (witness_bytes items) ≡ some items
 witness_again items h =
-    let e : witness_at any (witness_bytes items) ≡ Ok (items, []) = ap (witness_at any) (sym (append-nil (witness_bytes items))) ∙ the_stack.again (witness_bytes items) [] items (record { same = refl; fits = h }) in
+    let e : witness_at any (witness_bytes items) ≡ Ok (items, []) =
+    ap (witness_at any) (sym (append-nil (witness_bytes items))) ∙ the_stack.again (witness_bytes items) [] items (record {
+      same = refl;
+      fits = h;
+    }) in
     rw e refl
 
 unmarked : (inputs : List TxIn) → list_all is_bare_input inputs ≡ true → is_marked inputs ≡ false

@@ -60,9 +60,11 @@ spelled_is_read bytes p s =
     let last : List ℕ = flat_map map_bytes s.outputs in
     let inner : List ℕ = flat_map map_bytes s.inputs ++ last in
     let global : map_at (map_bytes s.global ++ inner) ≡ some (s.global, inner) = map_again s.global inner s.maps.0 in
-    let inputs : maps_at (length p.tx.inputs) inner ≡ some (s.inputs, last) = ap (λ (n : ℕ). maps_at n inner) (sym s.each_input) ∙ maps_again s.inputs last (all_prefix IsMap s.inputs s.outputs s.maps.1) in
+    let inputs : maps_at (length p.tx.inputs) inner ≡ some (s.inputs, last) =
+    ap (λ (n : ℕ). maps_at n inner) (sym s.each_input) ∙ maps_again s.inputs last (all_prefix IsMap s.inputs s.outputs s.maps.1) in
     let outputs : maps_at (length p.tx.outputs) last ≡ some (s.outputs, []) =
-    ap (λ (n : ℕ). maps_at n last) (sym s.each_output) ∙ ap (maps_at (length s.outputs)) (sym (append-nil last)) ∙ maps_again s.outputs [] (all_back IsMap s.inputs s.outputs s.maps.1) in
+    ap (λ (n : ℕ). maps_at n last) (sym s.each_output)
+    ∙ ap (maps_at (length s.outputs)) (sym (append-nil last)) ∙ maps_again s.outputs [] (all_back IsMap s.inputs s.outputs s.maps.1) in
     steps bytes ∙ rw (s.same, global, s.tx, inputs, s.said, outputs) refl
 
 -- ---- what is read is spelled
@@ -91,7 +93,8 @@ read_is_spelled bytes p fits e =
     let outputs = maps_read (length t.first.outputs) (i.first.1) o.first inputs.fits o.is in
     let done = given_is (eqb (length (o.first.1)) 0) (made t.first s.first) p o.then' in
     let none : o.first.1 ≡ [] = nil_from_length (o.first.1) (eqb-true _ _ done.holds) in
-    let last : i.first.1 ≡ flat_map map_bytes (o.first.0) = outputs.parts ∙ ap (λ (l : List ℕ). flat_map map_bytes (o.first.0) ++ l) none ∙ append-nil (flat_map map_bytes (o.first.0)) in
+    let last : i.first.1 ≡ flat_map map_bytes (o.first.0) =
+    outputs.parts ∙ ap (λ (l : List ℕ). flat_map map_bytes (o.first.0) ++ l) none ∙ append-nil (flat_map map_bytes (o.first.0)) in
     let spells : Spells bytes (made t.first s.first) = record {
       global = g.first.0;
       inputs = i.first.0;

@@ -37,7 +37,8 @@ whole_key (t ∷ text) value h = ap (λ (x : ℕ). x ∷ text) (sym (eqb-true t 
 signed_more : (r : Pairing) (rs : List Pairing) → is_among (r.0) (names_of rs) ≡ false → Signed rs → (t : Bool) → eqb (type_of r) 2 ≡ t → Signed (r ∷ rs)
 signed_more r rs new later true e =
     let key = key_behind_type (r.0) in
-    let absent : look_up key (signatures_of rs) ≡ None = later.found key ∙ ap (λ (k : List ℕ). look_up k rs) (whole_key (r.0) (r.1) e) ∙ look_none (r.0) rs new in
+    let absent : look_up key (signatures_of rs) ≡ None =
+    later.found key ∙ ap (λ (k : List ℕ). look_up k rs) (whole_key (r.0) (r.1) e) ∙ look_none (r.0) rs new in
     let apart = none_among key (signatures_of rs) absent in
     let is : signatures_of (r ∷ rs) ≡ insert_signature (key, r.1) (signatures_of rs) = rw e refl in
     record {

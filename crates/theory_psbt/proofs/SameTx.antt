@@ -90,8 +90,10 @@ tx_same a b h k e =
     let two = and_left ((a.version == b.version) && pointwise same_input a.inputs b.inputs) _ three in
     let version = eqb-true a.version b.version (and_left _ _ two) in
     let inputs = inputs_same a.inputs b.inputs (and_right _ _ h) (and_right _ _ k) (and_right (a.version == b.version) _ two) in
-    let outputs = (of_lists same_output of_outputs).yes a.outputs b.outputs (and_right ((a.version == b.version) && pointwise same_input a.inputs b.inputs) _ three) in
-    let lock = eqb-true a.lock b.lock (and_right ((a.version == b.version) && pointwise same_input a.inputs b.inputs && pointwise same_output a.outputs b.outputs) _ e) in
+    let outputs = (of_lists same_output of_outputs).yes a.outputs b.outputs
+    (and_right ((a.version == b.version) && pointwise same_input a.inputs b.inputs) _ three) in
+    let lock = eqb-true a.lock b.lock
+    (and_right ((a.version == b.version) && pointwise same_input a.inputs b.inputs && pointwise same_output a.outputs b.outputs) _ e) in
     λ i. record { version = version i; inputs = inputs i; outputs = outputs i; lock = lock i }
 
 pub tx_own : (a : Tx) → same_bare a a ≡ true

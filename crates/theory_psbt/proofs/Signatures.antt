@@ -85,7 +85,8 @@ put_found key r (s ∷ ss) new = by_place (is_before (r.0) (s.0)) (put_found key
         → (if t then Some (s.1) else look_up key (insert_signature r ss))
         ≡ (if bytes_eq (r.0) key then Some (r.1) else (if t then Some (s.1) else look_up key ss))
     by_key true e later =
-        let apart : bytes_eq (r.0) key ≡ false = subst (λ (x : List ℕ). bytes_eq (r.0) x ≡ false) (same_bytes (s.0) key e) (bytes_ne-back (s.0) (r.0) (or_left _ _ new)) in
+        let apart : bytes_eq (r.0) key ≡ false =
+        subst (λ (x : List ℕ). bytes_eq (r.0) x ≡ false) (same_bytes (s.0) key e) (bytes_ne-back (s.0) (r.0) (or_left _ _ new)) in
         rw apart refl
     by_key false e later = later
 
@@ -118,8 +119,10 @@ same_signatures (p ∷ ps) (q ∷ qs) a b h =
   where
     tails : (key : List ℕ) → p.0 ≡ q.0 → (t : Bool) → bytes_eq (p.0) key ≡ t → look_up key ps ≡ look_up key qs
     tails key same true e =
-        let here : look_up key ps ≡ None = subst (λ (x : List ℕ). look_up x ps ≡ None) (same_bytes (p.0) key e) (before_none (p.0) ps (first_before (p.0) (names_of ps) a)) in
-        let there : look_up key qs ≡ None = subst (λ (x : List ℕ). look_up x qs ≡ None) (sym same ∙ same_bytes (p.0) key e) (before_none (q.0) qs (first_before (q.0) (names_of qs) b)) in
+        let here : look_up key ps ≡ None =
+        subst (λ (x : List ℕ). look_up x ps ≡ None) (same_bytes (p.0) key e) (before_none (p.0) ps (first_before (p.0) (names_of ps) a)) in
+        let there : look_up key qs ≡ None =
+        subst (λ (x : List ℕ). look_up x qs ≡ None) (sym same ∙ same_bytes (p.0) key e) (before_none (q.0) qs (first_before (q.0) (names_of qs) b)) in
         here ∙ sym there
     tails key same false e =
         let other : bytes_eq (q.0) key ≡ false = subst (λ (x : List ℕ). bytes_eq x key ≡ false) same e in

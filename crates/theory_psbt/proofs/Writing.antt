@@ -84,7 +84,8 @@ records_proper i h =
 small_values : (records : List Pairing) (n : ℕ) → length (flat_map pairing_bytes records) < n → AllByRecursion (λ (r : Pairing). length (r.1) < n) records
 small_values [] n h = tt
 small_values (r ∷ rs) n h =
-    let whole : length (flat_map pairing_bytes (r ∷ rs)) ≡ length (pairing_bytes r) + length (flat_map pairing_bytes rs) = ap length (flat_map-cons pairing_bytes r rs) ∙ length-append (pairing_bytes r) (flat_map pairing_bytes rs) in
+    let whole : length (flat_map pairing_bytes (r ∷ rs)) ≡ length (pairing_bytes r) + length (flat_map pairing_bytes rs) =
+    ap length (flat_map-cons pairing_bytes r rs) ∙ length-append (pairing_bytes r) (flat_map pairing_bytes rs) in
     let one : length (pairing_bytes r) ≡ length (sized (r.0)) + length (sized (r.1)) = length-append (sized (r.0)) (sized (r.1)) in
     let value : length (sized (r.1)) ≡ length (compact (length (r.1))) + length (r.1) = length-append (compact (length (r.1))) (r.1) in
     (omega arith, small_values rs n (omega arith))
@@ -148,11 +149,14 @@ input_again : (i : PsbtInput) → IsKnown i → signs_ascend i ≡ true → inpu
 input_again i h asc =
     let records = input_records i in
     let s = signed records (records_apart i asc) in
-    let spent : (look_up (1 ∷ []) records >>= output_of) ≡ i.spent = ap (λ (o : Option (List ℕ)). o >>= output_of) (found_spent i) ∙ said_again output_bytes output_of IsOutput i.spent h.spent output_again in
-    let partial : signatures_of records ≡ i.partial = same_signatures (signatures_of records) i.partial s.ascend asc (λ key. s.found key ∙ found_signature key i) in
+    let spent : (look_up (1 ∷ []) records >>= output_of) ≡ i.spent =
+    ap (λ (o : Option (List ℕ)). o >>= output_of) (found_spent i) ∙ said_again output_bytes output_of IsOutput i.spent h.spent output_again in
+    let partial : signatures_of records ≡ i.partial =
+    same_signatures (signatures_of records) i.partial s.ascend asc (λ key. s.found key ∙ found_signature key i) in
     let all : is_some (look_up (3 ∷ []) records) ≡ i.all = ap is_some (found_all i) ∙ all_said i.all in
     let script : look_up (5 ∷ []) records ≡ i.script = found_script i in
-    let witness : (look_up (8 ∷ []) records >>= witness_of) ≡ i.witness = ap (λ (o : Option (List ℕ)). o >>= witness_of) (found_witness i) ∙ said_again witness_bytes witness_of IsStack i.witness h.witness witness_again in
+    let witness : (look_up (8 ∷ []) records >>= witness_of) ≡ i.witness =
+    ap (λ (o : Option (List ℕ)). o >>= witness_of) (found_witness i) ∙ said_again witness_bytes witness_of IsStack i.witness h.witness witness_again in
     let same : input_said records ≡ i = λ k. record { spent = spent k; partial = partial k; all = all k; script = script k; witness = witness k } in
     rw (records_fit i h) (ap (λ (x : PsbtInput). some x) same)
 
@@ -170,7 +174,8 @@ inputs_written : (inputs : List PsbtInput) → AllByRecursion IsKnown inputs →
     → length (flat_map written_input inputs) < 2 ^ 64 → Inputs_written inputs
 inputs_written [] h asc small = record { maps = tt; said = refl }
 inputs_written (i ∷ is) h asc small =
-    let whole : length (flat_map written_input (i ∷ is)) ≡ length (written_input i) + length (flat_map written_input is) = ap length (flat_map-cons written_input i is) ∙ length-append (written_input i) (flat_map written_input is) in
+    let whole : length (flat_map written_input (i ∷ is)) ≡ length (written_input i) + length (flat_map written_input is) =
+    ap length (flat_map-cons written_input i is) ∙ length-append (written_input i) (flat_map written_input is) in
     let here = and_left (signs_ascend i) (list_all signs_ascend is) asc in
     let later = inputs_written is h.1 (and_right (signs_ascend i) _ asc) (omega arith) in
     record { maps = (input_map i h.0 here (omega arith), later.maps); said = rw (input_again i h.0 here, later.said) refl }
@@ -208,7 +213,8 @@ sizes p h =
     let last : List ℕ = replicate (length p.tx.outputs) 0 in
     let inner : List ℕ = flat_map written_input p.inputs ++ last in
     let prefix : length (psbt_bytes p) ≡ length magic + length (map_bytes (global_map p) ++ inner) = length-append magic (map_bytes (global_map p) ++ inner) in
-    let middle : length (map_bytes (global_map p) ++ inner) ≡ length (map_bytes (global_map p)) + length inner = length-append (map_bytes (global_map p)) inner in
+    let middle : length (map_bytes (global_map p) ++ inner) ≡ length (map_bytes (global_map p)) + length inner =
+    length-append (map_bytes (global_map p)) inner in
     let back : length inner ≡ length (flat_map written_input p.inputs) + length last = length-append (flat_map written_input p.inputs) last in
     record { global = omega arith; inputs = omega arith }
 

@@ -14,15 +14,18 @@ mapped k (Some n) q lt h = subst (λ (x : ℕ). 0 < x) (ap (λ (z : ℕ × ℕ).
 
 head_positive : (b : ℕ) (rest : List ℕ) (q : ℕ × ℕ) → head_of b rest ≡ Some q → 0 < q.0
 head_positive b rest q h =
-    elim (nat_le b 75) as (λ t. (if t then Some (1, b) else (if b == 76 then option_map (λ (n : ℕ). (2, n)) (one_byte rest) else (if b == 77 then option_map (λ (n : ℕ). (3, n)) (two_bytes rest) else option_map (λ (n : ℕ). (5, n)) (four_bytes rest)))) ≡ Some q → 0 < q.0) [
+    elim (nat_le b 75) as (λ t. (if t then Some (1, b) else (if b == 76 then option_map (λ (n : ℕ). (2, n)) (one_byte rest) else
+    (if b == 77 then option_map (λ (n : ℕ). (3, n)) (two_bytes rest) else option_map (λ (n : ℕ). (5, n)) (four_bytes rest)))) ≡ Some q → 0 < q.0) [
       | true ↦ λ s. mapped 1 (Some b) q (lit< tt) s
-      | false ↦ λ s. elim (b == 76) as (λ t. (if t then option_map (λ (n : ℕ). (2, n)) (one_byte rest) else (if b == 77 then option_map (λ (n : ℕ). (3, n)) (two_bytes rest) else option_map (λ (n : ℕ). (5, n)) (four_bytes rest))) ≡ Some q → 0 < q.0) [
-        | true ↦ mapped 2 (one_byte rest) q (lit< tt)
-        | false ↦ λ s. elim (b == 77) as (λ t. (if t then option_map (λ (n : ℕ). (3, n)) (two_bytes rest) else option_map (λ (n : ℕ). (5, n)) (four_bytes rest)) ≡ Some q → 0 < q.0) [
-          | true ↦ mapped 3 (two_bytes rest) q (lit< tt)
-          | false ↦ mapped 5 (four_bytes rest) q (lit< tt)
-        ] s
-      ] s
+      | false ↦ λ s. elim (b == 76) as (λ t. (if t then option_map (λ (n : ℕ). (2, n)) (one_byte rest) else
+          (if b == 77 then option_map (λ (n : ℕ). (3, n)) (two_bytes rest) else option_map (λ (n : ℕ). (5, n)) (four_bytes rest))) ≡ Some q → 0 < q.0) [
+            | true ↦ mapped 2 (one_byte rest) q (lit< tt)
+            | false ↦ λ s. elim (b == 77) as
+                (λ t. (if t then option_map (λ (n : ℕ). (3, n)) (two_bytes rest) else option_map (λ (n : ℕ). (5, n)) (four_bytes rest)) ≡ Some q → 0 < q.0) [
+                  | true ↦ mapped 3 (two_bytes rest) q (lit< tt)
+                  | false ↦ mapped 5 (four_bytes rest) q (lit< tt)
+                ] s
+          ] s
     ] h
 
 cut_shorter : (b : ℕ) (rest : List ℕ) (o : Option (ℕ × ℕ)) (p : Op × List ℕ) → ((q : ℕ × ℕ) → o ≡ Some q → 0 < q.0) → cut_push (b ∷ rest) o
@@ -30,7 +33,8 @@ cut_shorter : (b : ℕ) (rest : List ℕ) (o : Option (ℕ × ℕ)) (p : Op × L
 cut_shorter b rest None p pos h = cc
 cut_shorter b rest (Some q) p pos h =
     let lt = pos q refl in
-    elim (nat_le (q.0 + q.1) (suc (length rest))) as (λ t. (if t then Some (Push (slice_range (b ∷ rest) q.0 (q.0 + q.1)), drop (q.0 + q.1) (b ∷ rest)) else None) ≡ Some p → length p.1 ≤ length rest) [
+    elim (nat_le (q.0 + q.1) (suc (length rest))) as
+    (λ t. (if t then Some (Push (slice_range (b ∷ rest) q.0 (q.0 + q.1)), drop (q.0 + q.1) (b ∷ rest)) else None) ≡ Some p → length p.1 ≤ length rest) [
       | true ↦ λ s.
           let left = ap (λ (z : Op × List ℕ). length z.1) (same_Some _ p s) in
           let n = length-drop (q.0 + q.1) (b ∷ rest) in
@@ -41,7 +45,8 @@ cut_shorter b rest (Some q) p pos h =
 -- what follows the first operation is shorter
 pub first_shorter : (b : ℕ) (rest : List ℕ) (p : Op × List ℕ) → first_op (b ∷ rest) ≡ Some p → length p.1 ≤ length rest
 first_shorter b rest p h =
-    elim (nat_le b 78) as (λ t. (if t then cut_push (b ∷ rest) (head_of b rest) else (if is_some (opcode_of b) then Some (Code b, rest) else None)) ≡ Some p → length p.1 ≤ length rest) [
+    elim (nat_le b 78) as (λ t. (if t then cut_push (b ∷ rest) (head_of b rest) else (if is_some (opcode_of b) then Some (Code b, rest) else None))
+    ≡ Some p → length p.1 ≤ length rest) [
       | true ↦ cut_shorter b rest (head_of b rest) p (head_positive b rest)
       | false ↦ λ s. elim (is_some (opcode_of b)) as (λ t. (if t then Some (Code b, rest) else None) ≡ Some p → length p.1 ≤ length rest) [
         | true ↦ λ s. let left = ap (λ (z : Op × List ℕ). length z.1) (same_Some _ p s) in omega arith
@@ -60,7 +65,8 @@ ops_enough k [] h j g = refl
 ops_enough zero (b ∷ rest) h j g = absurd (omega arith)
 ops_enough (suc k) (b ∷ rest) h zero g = absurd (omega arith)
 ops_enough (suc k) (b ∷ rest) h (suc j) g =
-    and_then_same _ _ (first_op (b ∷ rest)) (λ p e. let s = first_shorter b rest p e in ap (option_map (λ (ops : List Op). p.0 ∷ ops)) (ops_enough k p.1 (omega arith) j (omega arith)))
+    and_then_same _ _ (first_op (b ∷ rest))
+    (λ p e. let s = first_shorter b rest p e in ap (option_map (λ (ops : List Op). p.0 ∷ ops)) (ops_enough k p.1 (omega arith) j (omega arith)))
 
 pub ops_next : (bytes left : List ℕ) (op : Op) → first_op bytes ≡ Some (op, left) → ops_of (length bytes) bytes
     ≡ option_map (λ (ops : List Op). op ∷ ops) (ops_of (length left) left)

@@ -34,12 +34,13 @@ use Rattle.theory_deal.proofs.WellFormed.{well_formed}
 use Rattle.theory_deal_text.specs.Statements.{DealTextsAreRead}
 use Rattle.theory_state.specs.Causes.{chain_statuses, ChainCausesTheorem}
 use Rattle.theory_state.specs.StateAnswers.{StateAnswers}
+use Rattle.theory_state_text.specs.Secrets.{StateTellsSecrets}
 use Rattle.tool_shell.specs.Around.{Around}
 use Rattle.tool_shell.specs.Answered.{GivesUp}
 use Rattle.tool_shell.proofs.Ended.{ended_with}
 use Rattle.tool_shell.proofs.Seen.{some_command}
 use Rattle.bitml_deal.specs.Dealt.{Answers, AnswersOrGivesUp, HasCausesOf, CausedByTexts, Caused, Keeps, KeepsTaken}
-use Rattle.bitml_deal.specs.Dealt.{KeepsTexts, SignersTexts, IfFinishedBy, IfFinished, IfStandsRead, IfSaysBy, IfSays, ReadsFiles, FollowsChains, ForeseesChains, KnowsWallets, Headline}
+use Rattle.bitml_deal.specs.Dealt.{KeepsTexts, SignersTexts, IfFinishedBy, IfFinished, IfStandsRead, IfTellsRead, IfSaysBy, IfSays, ReadsFiles, FollowsChains, ForeseesChains, KnowsWallets, Headline}
 
 -- the theorems that are cited
 pub record Theorems : Type 0 where
@@ -65,6 +66,7 @@ pub record Theorems : Type 0 where
   pub finished : FinishTheorem
   pub answers : FinishAnswers
   pub stands : StateAnswers
+  pub tells : StateTellsSecrets
   pub says : DealTextsAreRead
   pub follows : FollowsChains
   pub foresees : ForeseesChains
@@ -197,6 +199,16 @@ module _ (t : Theorems) (hash : List ℕ → List ℕ) (bytes : HashesBytes hash
   stands None reads = tt
   stands (Some command) reads = stands_by command (texts_read reads)
 
+  tells_by : (command : ChainCommand) (o : Option (List Text))
+      → IfTellsRead hash (Some command) o (chain_read_answer secp256k1 hash command o)
+  tells_by command None = tt
+  tells_by command (Some texts) = t.tells secp256k1 hash command texts bytes
+
+  tells : (command : Option ChainCommand) (reads : List Read)
+      → IfTellsRead hash command (texts_read reads) (chain_answer secp256k1 hash command reads)
+  tells None reads = tt
+  tells (Some command) reads = tells_by command (texts_read reads)
+
   -- ---- what a text says
 
   says_texts : (command : ChainCommand) (texts : List Text) → IfSaysBy hash command texts (chain_text_answer secp256k1 hash command texts)
@@ -241,6 +253,7 @@ module _ (t : Theorems) (hash : List ℕ → List ℕ) (bytes : HashesBytes hash
             keeps = keeps_texts (texts_read a.reads);
             finished = finished command a.reads;
             stands = stands command a.reads;
+            tells = tells command a.reads;
             says = says command a.reads;
             signers = signers_texts (texts_read a.reads);
             verifier = t.verifier;

@@ -65,6 +65,7 @@ use Rattle.theory_follow.specs.LiveMaps.{LedgersFollow}
 use Rattle.theory_follow.specs.Taken.{TakenStands}
 use Rattle.theory_state.specs.Causes.{causes as chain_causes}
 use Rattle.theory_state.specs.StateAnswers.{IfStands}
+use Rattle.theory_state_text.specs.Secrets.{IfTells}
 use Rattle.theory_wallets.specs.Addresses.{AddressesOfDeals}
 use Rattle.theory_wallets.specs.Dust.{WarnsOfValues}
 use Rattle.theory_wallets.specs.ForWallets.{ForWallets}
@@ -212,6 +213,12 @@ IfStandsRead hash None texts printed = Unit {0}
 IfStandsRead hash (Some command) None printed = Unit {0}
 IfStandsRead hash (Some command) (Some texts) printed = IfStands secp256k1 hash command texts printed
 
+-- and that text is a file of secrets, which gives just what is known
+abbrev pub IfTellsRead : (List ℕ → List ℕ) → Option ChainCommand → Option (List Text) → Printed → Type 0
+IfTellsRead hash None texts printed = Unit {0}
+IfTellsRead hash (Some command) None printed = Unit {0}
+IfTellsRead hash (Some command) (Some texts) printed = IfTells secp256k1 hash command texts printed
+
 -- ---- texts
 
 -- what is needed, planned, given to signers, missing and held is read back from the text that says so
@@ -319,6 +326,8 @@ pub record Serves (hash : List ℕ → List ℕ) (command : Option ChainCommand)
   pub finished : IfFinished hash command (texts_read answers.reads) (chain_answer secp256k1 hash command answers.reads)
   -- and where a deal stands
   pub stands : IfStandsRead hash command (texts_read answers.reads) (chain_answer secp256k1 hash command answers.reads)
+  -- and its text is a file of secrets that gives just what is known there
+  pub tells : IfTellsRead hash command (texts_read answers.reads) (chain_answer secp256k1 hash command answers.reads)
   -- and its text says it all
   pub says : IfSays hash command (texts_read answers.reads) (chain_answer secp256k1 hash command answers.reads)
   -- and the transactions for signers are those of its contract, each under its name

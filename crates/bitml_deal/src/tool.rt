@@ -34,6 +34,7 @@ use theory_deal_text::{deal_texts_are_read, filled_keys_are_taken};
 use theory_follow::{asides_left_out, chains_come, ledgers_follow, taken_stands};
 use theory_script::any_keys::script_theorem;
 use theory_state::{chain_statuses_have_causes, state_answers};
+use theory_state_text::state_tells_secrets;
 use theory_wallets::{
     addresses_of_deals, deals_are_shown, for_wallets, networks_add_addresses, parties_endorse,
     ready_and_missing, warns_of_values,
@@ -89,7 +90,7 @@ fn call_of(alloc: Global, words: &[String]) -> Result<Option<DealCall<'_>>, OutO
 /// Runs the command that words are: reads its files, writes its text, and answers its status. Each status comes by its cause, and what is
 /// written of a deal that is taken is as the theorems on deals say, for ECDSA over secp256k1: its signatures verify, and a transaction that
 /// it finishes is accepted by each ledger on which what it spends is live, from its lock on. Where a deal stands after a chain is shown as
-/// a legal run of the calculus, with what can come next, and what never does.
+/// a legal run of the calculus, with what can come next, and what never does; and that text is a file of secrets with just what is known.
 pub fn deal_tool<H: Hash32 + Drop, F: Files, S: Sink>(
     alloc: Global,
     words: &[String],
@@ -128,6 +129,7 @@ pub fn deal_tool<H: Hash32 + Drop, F: Files, S: Sink>(
     finish_theorem();
     finish_answers();
     state_answers();
+    state_tells_secrets();
     deal_texts_are_read();
     chains_are_spelled();
     chains_are_refused();

@@ -40,6 +40,7 @@ returns g c =
       finished = c.finish_theorem.ensures;
       answers = c.finish_answers.ensures;
       stands = c.state_answers.ensures;
+      tells = c.state_tells_secrets.ensures;
       says = c.deal_texts_are_read.ensures;
       follows = record {
         followed = c.followed_exactly.ensures;

@@ -1,0 +1,10 @@
+pub mod Words
+pub mod Needs
+pub mod Never
+pub mod Events
+pub mod Leads
+pub mod LinesRead
+pub mod Once
+pub mod Told
+pub mod Outlooks
+pub mod Vectors

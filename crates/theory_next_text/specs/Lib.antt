@@ -1,0 +1,5 @@
+pub mod Lines
+pub mod Missing
+pub mod Sayable
+pub mod Statements
+pub mod Tells

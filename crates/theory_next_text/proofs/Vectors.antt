@@ -1,18 +1,23 @@
 -- Lines of the page on what can happen next, read.
-use Rattle.std.proofs.Common.{◌≡◌, ℕ, List, [], ◌∷◌, ◌++◌, Option, Some, None, refl}
+use Rattle.std.proofs.Common.{◌≡◌, ℕ, List, [], ◌∷◌, ◌++◌, Option, Some, None, refl, arith}
 use Rattle.std.specs.Prelude.{flat_map, codes}
+use Rattle.std.specs.Fmt.{digits}
 use Rattle.spec_terms.specs.Readable.{is_name}
 use Rattle.spec_terms.specs.declared.path.PathStep.TheVariants.{Branch as To, Part as Into}
 use Rattle.spec_bitcoin.specs.declared.verdict.Refusal.TheVariants as refusal
+use Rattle.spec_calculus.specs.Configuration.{Configuration}
 use Rattle.spec_run.specs.declared.event.Event.TheVariants as events
 use Rattle.spec_run.specs.declared.outcome.Reason.TheVariants as reason
 use Rattle.spec_next.specs.declared.lead.Made.TheVariants as makes
+use Rattle.spec_next.specs.declared.outlook.Outlook.{Outlook}
 use Rattle.spec_next.specs.declared.outlook.Ruling.TheVariants as rulings
 use Rattle.spec_next.specs.declared.requirement.Requirement.TheVariants as requirements
 use Rattle.spec_text.specs.RunText.{newline}
+use Rattle.theory_play_text.specs.Printable.{IsWide}
 use Rattle.theory_next_text.specs.Lines.{NextLine, next_of}
 use Rattle.theory_next_text.specs.Lines as line
 use Rattle.theory_next_text.specs.Missing as lack
+use Rattle.theory_next_text.specs.Sayable.{IsSayable}
 
 abbrev some_lines : List NextLine → Option (List NextLine)
 some_lines ls = Some ls
@@ -57,3 +62,39 @@ unread = None
 wrong : next_of parties (text (codes "needs Seller commit 0" ∷ [])) ≡ unread
 unfolding next_of is_name
 wrong = refl
+
+-- a contract of which a party may commit once it is advertised: all of it may be said
+abbrev waiting : Outlook
+waiting = record {
+  contract = 0;
+  parties = parties;
+  prospects = record {
+    event = events.Commit 0 (codes "Seller") [];
+    ruling = rulings.Cannot reason.NotAdvertised;
+    requirements = requirements.Advert 0 ∷ [];
+  } ∷ [];
+  waits = codes "Seller" ∷ [];
+}
+
+sayable : (g : Configuration) → IsWide g.time → IsSayable parties g (waiting ∷ [])
+unfolding is_name digits
+sayable g h = record {
+  height = h;
+  contracts = (
+    record {
+      contract = omega arith;
+      prospects = (
+        record {
+          spelled = record { read = refl; one_line = refl };
+          next = (omega arith, refl, refl);
+          ruled = tt;
+          leads = tt;
+          lacks = (omega arith, tt);
+        },
+        tt,
+      );
+      waits = (refl, tt);
+    },
+    tt,
+  );
+}

@@ -33,3 +33,4 @@ pub mod Lacking
 pub mod Advertising
 pub mod NothingSaid
 pub mod Others
+pub mod Named

@@ -152,10 +152,10 @@ no_digest_branch honest g n i a (Some b) =
     (all_others _ (λ x. ap not (no_digest_secret honest _ (look_up x _) x)) (reveals_of (core b))) refl))
 
 -- the commitment of which a digest is missing, which is still ahead of a party that isn't honest
-record Uncommitted (s : Setup) (w : World) (e : Event) (party : List ℕ) (k : ℕ) : Type 0 where
-  digests : List (List ℕ × List ℕ)
-  is : e ≡ events.Commit k party digests
-  dishonest : is_honest s party ≡ false
+pub record Uncommitted (s : Setup) (w : World) (e : Event) (party : List ℕ) (k : ℕ) : Type 0 where
+  pub digests : List (List ℕ × List ℕ)
+  pub is : e ≡ events.Commit k party digests
+  pub dishonest : is_honest s party ≡ false
 
 or_false : (a b : Bool) → (a || b) ≡ false → a ≡ false
 or_false true b h = cc
@@ -185,7 +185,7 @@ module _ (s : Setup) (g : Configuration) (w : World) (party : List ℕ) (k : ℕ
       apart true e h = cc
       apart false e h = cc
 
-  committing_requirement : (e : Event) → Is_in x (unmet (conditions s g w e)) → Uncommitted s w e party k
+  pub committing_requirement : (e : Event) → Is_in x (unmet (conditions s g w e)) → Uncommitted s w e party k
   committing_requirement (events.Commit contract who digests) h =
       let f = is_failing (conditions s g w (events.Commit contract who digests)) x h in
       by_place f.condition (in_from_contains (conditions s g w (events.Commit contract who digests)) f.condition f.there) f.outstanding f.fails

@@ -16,3 +16,4 @@ pub mod Hands
 pub mod Leads
 pub mod Asked
 pub mod Others
+pub mod Named

@@ -12,6 +12,7 @@ ghost use Rattle.theory_next.specs.Lasting.{RefusalsLast};
 ghost use Rattle.theory_next.specs.Leads.{LeadsAreEffects};
 ghost use Rattle.theory_next.specs.Listed.{NothingIsLeftOut};
 ghost use Rattle.theory_next.specs.MetAlone.{MetAloneTheorem};
+ghost use Rattle.theory_next.specs.Named.{WaitsAreNamed};
 ghost use Rattle.theory_next.specs.Never.{NeverIsSaid};
 ghost use Rattle.theory_next.specs.Once.{CandidatesStandOnce};
 ghost use Rattle.theory_next.specs.Others.{OthersComeTheorem};
@@ -105,6 +106,12 @@ pub fn leads_are_effects()
 /// it that is listed.
 pub fn waits_are_meant()
     ensures { WaitsAreMeant }
+{}
+
+/// So a contract waits for a party exactly where a printed line of what is missing names it for something that it can do now, or a line says
+/// that it can do what an event lacks that isn't printed.
+pub fn waits_are_named()
+    ensures { WaitsAreNamed }
 {}
 
 /// The first lines of a run that are printed of a contract, with the bytes of its secrets filled in, are the text of the

@@ -34,3 +34,5 @@ pub mod Advertising
 pub mod NothingSaid
 pub mod Others
 pub mod Named
+pub mod ByHand
+pub mod MetShown

@@ -17,3 +17,5 @@ pub mod Leads
 pub mod Asked
 pub mod Others
 pub mod Named
+pub mod ByHand
+pub mod MetShown

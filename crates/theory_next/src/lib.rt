@@ -3,6 +3,7 @@
 #![tactic(auto)]
 
 ghost use Rattle.theory_next.specs.Asked.{EventsAreAsked};
+ghost use Rattle.theory_next.specs.ByHand.{HandsBringTheorem};
 ghost use Rattle.theory_next.specs.Candidates.{CanIsMeant, OffersAreCandidates, OffersAreSaid};
 ghost use Rattle.theory_next.specs.FirstEvents.{FirstEventsGoThrough};
 ghost use Rattle.theory_next.specs.FirstLines.{FirstLinesAreARun};
@@ -12,6 +13,7 @@ ghost use Rattle.theory_next.specs.Lasting.{RefusalsLast};
 ghost use Rattle.theory_next.specs.Leads.{LeadsAreEffects};
 ghost use Rattle.theory_next.specs.Listed.{NothingIsLeftOut};
 ghost use Rattle.theory_next.specs.MetAlone.{MetAloneTheorem};
+ghost use Rattle.theory_next.specs.MetShown.{MetShownTheorem};
 ghost use Rattle.theory_next.specs.Named.{WaitsAreNamed};
 ghost use Rattle.theory_next.specs.Never.{NeverIsSaid};
 ghost use Rattle.theory_next.specs.Once.{CandidatesStandOnce};
@@ -71,6 +73,12 @@ pub fn met_alone()
     ensures { MetAloneTheorem }
 {}
 
+/// After a run that doesn't halt, where a secret alone is said to be missing for a branch, the event that shows it can come, and after it
+/// the branch can be taken, unless that halts the run, if its predicate is true; else it lacks that alone.
+pub fn met_shown()
+    ensures { MetShownTheorem }
+{}
+
 /// An event that lacks what never comes says that alone; where it goes before the beginning, its contract shows no other such event.
 /// Of a contract that is over nothing is shown.
 pub fn never_is_said()
@@ -85,6 +93,12 @@ pub fn refusals_last()
 /// What a signature by hand gives isn't said to be missing, and nothing else is left out for it.
 pub fn hands_count()
     ensures { HandsCountTheorem }
+{}
+
+/// After a run a contract begins, and a branch is taken, unless that halts it, exactly where nothing is said to be missing, whatever was
+/// signed by hand.
+pub fn hands_bring()
+    ensures { HandsBringTheorem }
 {}
 
 /// Of what a contract has ahead all is listed, but what may come later than another event of it that is listed.

@@ -29,6 +29,7 @@ use Rattle.spec_next.specs.Foreseen.{foreseen_collision, unless_collided, next_p
 use Rattle.spec_next.specs.Forms.{next_text}
 use Rattle.spec_next.specs.NextAnswer.{NextCommand, form_of, party_of, begins_judged, next_answer, next_texts, read_next}
 use Rattle.theory_next.specs.Asked.{EventsAreAsked}
+use Rattle.theory_next.specs.ByHand.{HandsBringTheorem}
 use Rattle.theory_next.specs.Candidates.{OffersAreSaid}
 use Rattle.theory_next.specs.FirstLines.{FirstLinesAreARun}
 use Rattle.theory_next.specs.FirstEvents.{FirstEventsGoThrough}
@@ -38,6 +39,8 @@ use Rattle.theory_next.specs.Lasting.{RefusalsLast}
 use Rattle.theory_next.specs.Leads.{LeadsAreEffects}
 use Rattle.theory_next.specs.Listed.{NothingIsLeftOut}
 use Rattle.theory_next.specs.MetAlone.{MetAloneTheorem}
+use Rattle.theory_next.specs.MetShown.{MetShownTheorem}
+use Rattle.theory_next.specs.Named.{WaitsAreNamed}
 use Rattle.theory_next.specs.Never.{NeverIsSaid}
 use Rattle.theory_next.specs.Once.{CandidatesStandOnce}
 use Rattle.theory_next.specs.Others.{OthersComeTheorem}
@@ -59,6 +62,7 @@ pub record Theorems : Type 0 where
   pub once : CandidatesStandOnce
   pub outstanding : RequirementsAreExactTheorem
   pub waits : WaitsAreMeant
+  pub named : WaitsAreNamed
   pub never : NeverIsSaid
   pub hands : HandsCountTheorem
   pub listed : NothingIsLeftOut
@@ -66,8 +70,10 @@ pub record Theorems : Type 0 where
   pub leads : LeadsAreEffects
   pub last : RefusalsLast
   pub ready : ReadyComesTheorem
+  pub by_hand : HandsBringTheorem
   pub others : OthersComeTheorem
   pub alone : MetAloneTheorem
+  pub shown_alone : MetShownTheorem
   pub lines : FirstLinesAreARun
   pub run : FirstRunIsARun
   pub go : FirstEventsGoThrough
@@ -154,9 +160,12 @@ module _ (form : Form) (party : Option (List ℕ)) (s : Setup) (es : List Event)
     together = t.together;
     leads = λ n i a b here taken. t.leads (last_configuration s es) n i a b here taken;
     waits = λ k advert at. t.waits s es run k advert at;
+    named = λ k advert at. t.named s es run party k advert at;
     ready = t.ready s es run;
+    by_hand = t.by_hand s es run;
     others = t.others s es run told.goes_on;
     alone = t.alone s es run told.goes_on;
+    shown_alone = t.shown_alone s es run told.goes_on;
   }
 
 -- ---- files

@@ -27,6 +27,7 @@ use Rattle.spec_next.specs.FirstLines.{begin_text, first_lines, first_run, first
 use Rattle.spec_next.specs.NextAnswer.{NextCommand, form_of, party_of}
 use Rattle.spec_next.specs.Forms.{next_text}
 use Rattle.theory_next.specs.Asked.{RulingIsMeant, IsAsked}
+use Rattle.theory_next.specs.ByHand.{HandsBring}
 use Rattle.theory_next.specs.Candidates.{IsSaid}
 use Rattle.theory_next.specs.FirstEvents.{AreLong, GoesThroughOrHalts}
 use Rattle.theory_next.specs.FirstRun.{first_setup, HasRoom, AreSecrets}
@@ -35,6 +36,8 @@ use Rattle.theory_next.specs.Lasting.{RefusalsLast}
 use Rattle.theory_next.specs.Leads.{LeadIsMeant}
 use Rattle.theory_next.specs.Listed.{ListsAll}
 use Rattle.theory_next.specs.MetAlone.{MetAlone}
+use Rattle.theory_next.specs.MetShown.{MetShown}
+use Rattle.theory_next.specs.Named.{WaitsByLines}
 use Rattle.theory_next.specs.Never.{SaysWhatLacks, ShowsWhatComes}
 use Rattle.theory_next.specs.Once.{EachOnce}
 use Rattle.theory_next.specs.Others.{OthersCome}
@@ -82,12 +85,20 @@ pub record SaysOfRun (form : Form) (party : Option (List ℕ)) (s : Setup) (es :
   -- a contract waits exactly for those who can give now something that is missing
   pub waits : (k : ℕ) (advert : Advert) → contract_at (last_configuration s es).contracts k ≡ Some advert
       → WaitsForThose s (last_configuration s es) (last_world s es) k advert
+  -- and `waits A` is printed exactly where a printed line names A for something that A can do now, or says that A can do what an event lacks
+  -- that isn't printed
+  pub named : (k : ℕ) (advert : Advert) → contract_at (last_configuration s es).contracts k ≡ Some advert
+      → WaitsByLines s (last_configuration s es) (last_world s es) party k advert
   -- where nothing is missing, a contract begins and a branch is taken
   pub ready : ReadyComes s es
+  -- and exactly where nothing is said to be missing, whatever was signed by hand
+  pub by_hand : HandsBring s es
   -- and what else nothing is said to be missing for can come, unless it halts the run
   pub others : OthersCome s es
   -- where an authorisation or a height alone is missing for a branch and is met, the branch can come
   pub alone : MetAlone s es
+  -- and where a secret alone is said to be missing and is shown, the branch can come, or lacks its predicate alone
+  pub shown_alone : MetShown s es
 
 -- ---- the first lines
 

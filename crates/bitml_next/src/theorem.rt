@@ -3,6 +3,7 @@
 ghost use Rattle.spec_tool.specs.Statements.{ValidRunTheorem};
 ghost use Rattle.theory_commands.specs.Refused.{FilesAreJudged};
 ghost use Rattle.theory_next.specs.Asked.{EventsAreAsked};
+ghost use Rattle.theory_next.specs.ByHand.{HandsBringTheorem};
 ghost use Rattle.theory_next.specs.Candidates.{OffersAreSaid};
 ghost use Rattle.theory_next.specs.FirstEvents.{FirstEventsGoThrough};
 ghost use Rattle.theory_next.specs.FirstLines.{FirstLinesAreARun};
@@ -12,6 +13,8 @@ ghost use Rattle.theory_next.specs.Lasting.{RefusalsLast};
 ghost use Rattle.theory_next.specs.Leads.{LeadsAreEffects};
 ghost use Rattle.theory_next.specs.Listed.{NothingIsLeftOut};
 ghost use Rattle.theory_next.specs.MetAlone.{MetAloneTheorem};
+ghost use Rattle.theory_next.specs.MetShown.{MetShownTheorem};
+ghost use Rattle.theory_next.specs.Named.{WaitsAreNamed};
 ghost use Rattle.theory_next.specs.Never.{NeverIsSaid};
 ghost use Rattle.theory_next.specs.Once.{CandidatesStandOnce};
 ghost use Rattle.theory_next.specs.Others.{OthersComeTheorem};
@@ -24,9 +27,9 @@ ghost use Rattle.bitml_next.specs.Told.{TellsAll};
 use theory_commands::files_are_judged;
 use theory_next::{
     candidates_stand_once, events_are_asked, first_events_go_through, first_lines_are_a_run,
-    first_run_is_a_run, hands_count, leads_are_effects, lines_name_all, met_alone, never_is_said,
-    nothing_is_left_out, offers_are_said, others_come, ready_comes, refusals_last,
-    requirements_are_exact, waits_are_meant,
+    first_run_is_a_run, hands_bring, hands_count, leads_are_effects, lines_name_all, met_alone,
+    met_shown, never_is_said, nothing_is_left_out, offers_are_said, others_come, ready_comes,
+    refusals_last, requirements_are_exact, waits_are_meant, waits_are_named,
 };
 use theory_tool::valid_runs;
 
@@ -38,6 +41,7 @@ fn by_theorems()
     requires once { CandidatesStandOnce }
     requires outstanding { RequirementsAreExactTheorem }
     requires waits { WaitsAreMeant }
+    requires named { WaitsAreNamed }
     requires never { NeverIsSaid }
     requires hands { HandsCountTheorem }
     requires listed { NothingIsLeftOut }
@@ -45,8 +49,10 @@ fn by_theorems()
     requires leads { LeadsAreEffects }
     requires last { RefusalsLast }
     requires ready { ReadyComesTheorem }
+    requires by_hand { HandsBringTheorem }
     requires others { OthersComeTheorem }
     requires alone { MetAloneTheorem }
+    requires shown_alone { MetShownTheorem }
     requires lines { FirstLinesAreARun }
     requires run { FirstRunIsARun }
     requires go { FirstEventsGoThrough }
@@ -66,6 +72,7 @@ pub(crate) fn answers_tell_all()
     candidates_stand_once();
     requirements_are_exact();
     waits_are_meant();
+    waits_are_named();
     never_is_said();
     hands_count();
     nothing_is_left_out();
@@ -73,8 +80,10 @@ pub(crate) fn answers_tell_all()
     leads_are_effects();
     refusals_last();
     ready_comes();
+    hands_bring();
     others_come();
     met_alone();
+    met_shown();
     first_lines_are_a_run();
     first_run_is_a_run();
     first_events_go_through();

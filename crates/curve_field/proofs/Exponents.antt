@@ -1,11 +1,12 @@
 -- The exponents of inverses and roots.
-use Rattle.std.proofs.Common.{◌≡◌, ℕ, ◌+◌, ◌-◌, ◌/◌, ◌%◌, refl}
+use Rattle.std.proofs.Common.{◌≡◌, ℕ, ◌+◌, ◌-◌, ◌/◌, ◌%◌, ◌<◌, refl}
+use Rattle.std.proofs.Math.Nat.{mod-eq_of_lt}
 use Rattle.spec_curve.specs.Field.{field_prime, power}
 use Rattle.curve_field.specs.Value.{value}
 
-pub power_none : (m a k : ℕ) → power 0 m a k ≡ 1 % m
+pub power_none : (m a k : ℕ) → 1 < m → power 0 m a k ≡ 1
 unfolding power
-power_none m a k = refl
+power_none m a k h = mod-eq_of_lt h
 
 pub inverse_exponent_is : value (record {
   w0 = 0xFFFFFFFEFFFFFC2D;

@@ -5,6 +5,7 @@
 
 mod bytes;
 mod compare;
+mod inverse;
 mod powers;
 mod remainder;
 mod ring;
@@ -12,6 +13,7 @@ mod words;
 
 pub use bytes::from_bytes;
 pub use compare::{is_below, is_equal, is_odd, is_zero};
-pub use powers::{invert, power, root};
+pub use inverse::{invert, root};
+pub use powers::{Modulus, power};
 pub use ring::{add, multiply, prime, scale, subtract};
 pub use words::{Row, Wide, Words, difference, lower, product, row_of, small};

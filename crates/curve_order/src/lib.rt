@@ -2,8 +2,8 @@
 //! No memory is taken, and only public data are handled: the time that a call takes tells of its arguments.
 #![tactic(auto)]
 
+mod inverse;
 mod modular;
-mod powers;
 
+pub use inverse::invert;
 pub use modular::{is_low, is_scalar, multiply, remainder};
-pub use powers::invert;

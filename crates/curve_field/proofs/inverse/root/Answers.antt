@@ -2,7 +2,7 @@ use Rattle.std.proofs.Common.{◌∙◌, ap}
 use Rattle.spec_curve.specs.Field.{field_prime, power, root}
 use Rattle.curve_field.specs.Value.{value}
 use Rattle.curve_field.proofs.Exponents.{root_exponent_is}
-use Rattle.curve_field.proofs.powers.root.Goals as goal
+use Rattle.curve_field.proofs.inverse.root.Goals as goal
 
 pub returns-clause-same : goal.returns-clause-same
 unfolding root

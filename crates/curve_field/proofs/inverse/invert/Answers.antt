@@ -2,7 +2,7 @@ use Rattle.std.proofs.Common.{◌∙◌, ap}
 use Rattle.spec_curve.specs.Field.{field_prime, power, inverse}
 use Rattle.curve_field.specs.Value.{value}
 use Rattle.curve_field.proofs.Exponents.{inverse_exponent_is}
-use Rattle.curve_field.proofs.powers.invert.Goals as goal
+use Rattle.curve_field.proofs.inverse.invert.Goals as goal
 
 pub returns-clause-same : goal.returns-clause-same
 unfolding inverse

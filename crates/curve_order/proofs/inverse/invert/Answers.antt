@@ -2,7 +2,7 @@ use Rattle.std.proofs.Common.{◌∙◌, ap}
 use Rattle.spec_curve.specs.Field.{group_order, power, inverse}
 use Rattle.curve_field.specs.Value.{value}
 use Rattle.curve_order.proofs.Folds.{exponent_is}
-use Rattle.curve_order.proofs.powers.invert.Goals as goal
+use Rattle.curve_order.proofs.inverse.invert.Goals as goal
 
 pub returns-clause-same : goal.returns-clause-same
 unfolding inverse

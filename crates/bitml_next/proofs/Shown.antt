@@ -48,6 +48,7 @@ use Rattle.theory_next.specs.Ready.{ReadyComesTheorem}
 use Rattle.theory_next.specs.Together.{LinesNameAll}
 use Rattle.theory_next.specs.Waits.{WaitsAreMeant}
 use Rattle.theory_next.specs.Requirements.{RequirementsAreExactTheorem}
+use Rattle.theory_next_text.specs.Statements.{NextIsReadBack}
 use Rattle.theory_commands.specs.Refused.{FilesAreJudged}
 use Rattle.theory_text.proofs.Within.Adverts.{read_is_readable}
 use Rattle.theory_tool.proofs.Runs.{opens_calmly}
@@ -67,6 +68,7 @@ pub record Theorems : Type 0 where
   pub hands : HandsCountTheorem
   pub listed : NothingIsLeftOut
   pub together : LinesNameAll
+  pub read : NextIsReadBack
   pub leads : LeadsAreEffects
   pub last : RefusalsLast
   pub ready : ReadyComesTheorem
@@ -158,6 +160,7 @@ module _ (form : Form) (party : Option (List ℕ)) (s : Setup) (es : List Event)
     lasting = t.last;
     listed = λ o. t.listed party o;
     together = t.together;
+    read = λ lines fine. t.read form party s es text told.told lines fine;
     leads = λ n i a b here taken. t.leads (last_configuration s es) n i a b here taken;
     waits = λ k advert at. t.waits s es run k advert at;
     named = λ k advert at. t.named s es run party k advert at;

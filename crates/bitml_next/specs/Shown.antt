@@ -21,11 +21,13 @@ use Rattle.spec_text.specs.RunText.{run_text}
 use Rattle.spec_tool.specs.Reads.{Read, Text, texts_read}
 use Rattle.spec_tool.specs.Commands.{Printed, contracts_from, setup_of}
 use Rattle.spec_next.specs.declared.form.Form.{Form}
+use Rattle.spec_next.specs.declared.form.Form.TheVariants as forms
 use Rattle.spec_next.specs.declared.outlook.Outlook.{Outlook}
 use Rattle.spec_next.specs.Candidates.{candidates, all_candidates}
 use Rattle.spec_next.specs.FirstLines.{begin_text, first_lines, first_run, first_events}
 use Rattle.spec_next.specs.NextAnswer.{NextCommand, form_of, party_of}
 use Rattle.spec_next.specs.Forms.{next_text}
+use Rattle.spec_next.specs.Prospects.{outlooks}
 use Rattle.theory_next.specs.Asked.{RulingIsMeant, IsAsked}
 use Rattle.theory_next.specs.ByHand.{HandsBring}
 use Rattle.theory_next.specs.Candidates.{IsSaid}
@@ -45,6 +47,8 @@ use Rattle.theory_next.specs.Ready.{ReadyComes}
 use Rattle.theory_next.specs.Together.{LinesNameAll}
 use Rattle.theory_next.specs.Waits.{WaitsForThose}
 use Rattle.theory_next.specs.Requirements.{RequirementsAreExact}
+use Rattle.theory_next_text.specs.Sayable.{IsSayable}
+use Rattle.theory_next_text.specs.Statements.{IsReadAs}
 use Rattle.bitml_next.specs.Files.{SaysRefusals}
 
 -- ---- after a run
@@ -79,6 +83,11 @@ pub record SaysOfRun (form : Form) (party : Option (List ℕ)) (s : Setup) (es :
   pub listed : (o : Outlook) → ListsAll party o
   -- a line of what several parties lack names exactly those
   pub together : LinesNameAll
+  -- the lines are read as exactly this, in order, by those whom the run declares: each event with what it would come to, what its branch
+  -- makes, what is missing, each once, and who is waited for; if names and numbers are such as a line may have
+  pub read : form ≡ forms.Lines
+      → IsSayable s.header.parties (last_configuration s es) (outlooks s (last_configuration s es) (last_world s es))
+      → IsReadAs s.header.parties party (last_configuration s es) (outlooks s (last_configuration s es) (last_world s es)) text
   -- a branch is said to pay, or to lead to, what its step makes in the calculus
   pub leads : (n i : ℕ) (a : ActiveContract) (b : Guarded) → active_at (last_configuration s es).active n ≡ Some a
       → branch_at (last_configuration s es) n i ≡ Some b → LeadIsMeant (last_configuration s es) n i a b

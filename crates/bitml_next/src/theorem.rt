@@ -22,6 +22,7 @@ ghost use Rattle.theory_next.specs.Ready.{ReadyComesTheorem};
 ghost use Rattle.theory_next.specs.Together.{LinesNameAll};
 ghost use Rattle.theory_next.specs.Waits.{WaitsAreMeant};
 ghost use Rattle.theory_next.specs.Requirements.{RequirementsAreExactTheorem};
+ghost use Rattle.theory_next_text.specs.Statements.{NextIsReadBack};
 ghost use Rattle.bitml_next.specs.Told.{TellsAll};
 
 use theory_commands::files_are_judged;
@@ -31,6 +32,7 @@ use theory_next::{
     met_shown, never_is_said, nothing_is_left_out, offers_are_said, others_come, ready_comes,
     refusals_last, requirements_are_exact, waits_are_meant, waits_are_named,
 };
+use theory_next_text::next_is_read_back;
 use theory_tool::valid_runs;
 
 // A call that gives the defined answer or gives up tells all that is known of it, where the theorems hold.
@@ -46,6 +48,7 @@ fn by_theorems()
     requires hands { HandsCountTheorem }
     requires listed { NothingIsLeftOut }
     requires together { LinesNameAll }
+    requires read { NextIsReadBack }
     requires leads { LeadsAreEffects }
     requires last { RefusalsLast }
     requires ready { ReadyComesTheorem }
@@ -77,6 +80,7 @@ pub(crate) fn answers_tell_all()
     hands_count();
     nothing_is_left_out();
     lines_name_all();
+    next_is_read_back();
     leads_are_effects();
     refusals_last();
     ready_comes();

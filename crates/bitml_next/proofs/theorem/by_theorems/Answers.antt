@@ -14,6 +14,7 @@ returns c = tells_all (record {
   hands = c.requires.hands;
   listed = c.requires.listed;
   together = c.requires.together;
+  read = c.requires.read;
   leads = c.requires.leads;
   last = c.requires.last;
   ready = c.requires.ready;

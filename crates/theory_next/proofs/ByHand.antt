@@ -1,8 +1,8 @@
 -- A beginning or a branch comes where each of its conditions is met or a signature by hand gives it: a configuration that has the
 -- authorisations by hand besides is tracked by the same world, and offers it.
 use Rattle.std.proofs.Common.{◌≡◌, ℕ, List, [], ◌∷◌, ◌++◌, map, Bool, true, false, Option, Some, None, refl, sym, ap, ◌∙◌, subst, inl, inr, ◌⊎◌}
-use Rattle.std.specs.Prelude.{◌↔◌, ◌-◌, ◌==◌, ◌&&◌, ◌||◌, not, nat_le, is_some, if◌then◌else◌, slice_get, option_map}
-use Rattle.std.specs.List.{Contains, filter, list_all}
+use Rattle.std.specs.Prelude.{◌-◌, ◌==◌, ◌&&◌, ◌||◌, not, nat_le, is_some, if◌then◌else◌, slice_get, option_map}
+use Rattle.std.specs.List.{filter}
 use Rattle.std.specs.Str.{bytes_eq}
 use Rattle.std.proofs.lemmas.Bool.{and_parts, and_from, or_cases, or_left, or_right, eq-eqb, eqb-true}
 use Rattle.spec_data.specs.Lists.{is_among, look_up}
@@ -31,25 +31,22 @@ use Rattle.spec_run.specs.Offers.{Offer}
 use Rattle.spec_run.specs.Setup.{Setup, pre_at, contract_at as contract_of}
 use Rattle.spec_run.specs.Signing.{signed_all, authorising_pairs, branch_pair, prepared_if_compiled, initial_pairs}
 use Rattle.spec_run.specs.Statements.{IsRun, spends_with_leave}
-use Rattle.spec_run.specs.Steps.{is_of_party, is_bound_live, names_deposit}
+use Rattle.spec_run.specs.Steps.{is_of_party, is_bound_live}
 use Rattle.spec_run.specs.Translation.{last_configuration, last_world, first_halt}
 use Rattle.spec_run.specs.World.{ContractPosition, Output, World, bindings_at, output_at, live_position, live_position_at}
-use Rattle.spec_next.specs.declared.requirement.Requirement.{Requirement}
 use Rattle.spec_next.specs.declared.requirement.Requirement.TheVariants as requirements
-use Rattle.spec_next.specs.declared.outlook.Ruling.{Ruling}
-use Rattle.spec_next.specs.declared.outlook.Ruling.TheVariants as rulings
 use Rattle.spec_next.specs.Candidates.{are_signed}
 use Rattle.spec_next.specs.Hands.{are_in_book, is_in_hand}
-use Rattle.spec_next.specs.Prospects.{outstanding, requirements_by, prospect, ruling}
+use Rattle.spec_next.specs.Prospects.{outstanding, requirements_by}
 use Rattle.spec_next.specs.Requirements.{Condition, agreed, isnt_gone, started, authorised, put_in, secret_requirement, revealed, undecided_or_true, asked_for, asked_by_branch, conditions, unmet}
 use Rattle.theory_calculus.specs.Members.{Is_in}
-use Rattle.theory_calculus.proofs.Members.{in_left, in_right, in_append, in_filter, filter_has, in_from_contains}
+use Rattle.theory_calculus.proofs.Members.{in_left, in_right, in_append, in_filter, filter_has}
 use Rattle.theory_calculus.proofs.Names.{bytes-true, bytes_refl, different_names, persistent_different}
 use Rattle.theory_world.proofs.Contracts.Standing.{term_branches, unsigned_of_branch}
 use Rattle.theory_world.proofs.Later.{compiled_is}
 use Rattle.theory_world.proofs.Staying.{init_new}
 use Rattle.theory_world.proofs.Tests.{any-append}
-use Rattle.theory_run.specs.KeptBook.{KeptBook, DepositCause, BranchCause, gave, needed, started as has_started}
+use Rattle.theory_run.specs.KeptBook.{KeptBook, DepositCause, gave, needed, started as has_started}
 use Rattle.theory_run.specs.KeptRuns.{KeptBooks}
 use Rattle.theory_run.specs.KeptSecrets.{KeptSecrets}
 use Rattle.theory_run.specs.Tracks.{AgreeOnMoney, Constant, Tracks}
@@ -64,14 +61,14 @@ use Rattle.theory_offers.proofs.Basis.Opening.{signs_offers}
 use Rattle.theory_offers.proofs.Basis.Signed.{init_offers}
 use Rattle.theory_offers.proofs.OffersKept.{offers_kept}
 use Rattle.theory_offers.proofs.WholeRun.{KeptAll, opening_all, keeps_all}
-use Rattle.theory_next.specs.ByHand.{HandsBring, HandsBringTheorem}
+use Rattle.theory_next.specs.ByHand.{HandsBringTheorem}
 use Rattle.theory_next.specs.Others.{NothingSaid, ComesAfter}
 use Rattle.theory_next.specs.Ready.{CanUnlessHalts}
 use Rattle.theory_next.proofs.Exact.{in_map, from_map, fails_in}
 use Rattle.theory_next.proofs.MetAlone.{branch_held}
-use Rattle.theory_next.proofs.Never.{any_from, Found}
+use Rattle.theory_next.proofs.Never.{any_from}
 use Rattle.theory_next.proofs.NothingSaid.{unless_refused}
-use Rattle.theory_next.proofs.Ready.{Enabled, met, met_parts, offered, branch_enabled, beginning_enabled}
+use Rattle.theory_next.proofs.Ready.{Enabled, met, offered, branch_enabled, beginning_enabled}
 use Rattle.theory_next.proofs.Said.{kept_comes}
 
 -- ---- conditions

@@ -1,18 +1,17 @@
 -- Where a secret alone is said to be missing for a branch, the event that shows it meets it.
 use Rattle.std.proofs.Common.{◌≡◌, ℕ, List, [], ◌∷◌, ◌++◌, Bool, true, false, Option, Some, None, refl, sym, ap, ◌∙◌, subst, inl, inr, ◌⊎◌}
-use Rattle.std.specs.Prelude.{◌-◌, ◌&&◌, ◌||◌, not, nat_le, is_some, if◌then◌else◌, slice_get}
+use Rattle.std.specs.Prelude.{◌-◌, ◌&&◌, ◌||◌, not, nat_le, is_some, if◌then◌else◌}
 use Rattle.std.specs.List.{Contains, filter, list_any}
-use Rattle.std.proofs.lemmas.Bool.{and_parts, and_from, or_right}
+use Rattle.std.proofs.lemmas.Bool.{and_parts, and_from}
 use Rattle.spec_data.specs.Lists.{is_among, has_number, look_up, first_reason}
 use Rattle.spec_data.specs.Messages.{collision}
 use Rattle.std.specs.Str.{bytes_eq}
-use Rattle.spec_terms.specs.Core.{core, asks, is_asked, lock, puts_of, reveals_of, test_of}
+use Rattle.spec_terms.specs.Core.{core, asks, lock, puts_of, reveals_of, test_of}
 use Rattle.spec_terms.specs.Precondition.{secrets}
 use Rattle.spec_terms.specs.Term as term
 use Rattle.spec_terms.specs.Term.{branches}
 use Rattle.spec_terms.specs.Value.{holds}
 use Rattle.spec_terms.specs.declared.pre.Pre.{Pre}
-use Rattle.spec_bitcoin.specs.Keys.{has_signed}
 use Rattle.spec_calculus.specs.declared.parts.Revealed.{Revealed}
 use Rattle.spec_calculus.specs.Configuration.{Configuration}
 use Rattle.spec_calculus.specs.Beginning.{pre_of, bindings_of, is_there}
@@ -27,7 +26,7 @@ use Rattle.spec_run.specs.Agreement.{deposits_from, actives_from}
 use Rattle.spec_run.specs.Conditions.{IsEvent}
 use Rattle.spec_run.specs.Committing.{is_secret_long, secrets_at}
 use Rattle.spec_run.specs.Event.{Passed, Progress, pending, opening_world, played}
-use Rattle.spec_run.specs.Pending.{Pending, posting, refused, unless, guess, applied, apply}
+use Rattle.spec_run.specs.Pending.{Pending, posting, unless, guess, applied, apply}
 use Rattle.spec_run.specs.Revealing.{fits, fitting, own_secret, reveal_row}
 use Rattle.spec_run.specs.Secrets.{digest_at, is_shown, shown}
 use Rattle.spec_run.specs.Setup.{Setup, bytes_or_none, has_contract, held_secret, is_honest}
@@ -49,7 +48,7 @@ use Rattle.theory_run.specs.Tracks.{Tracks}
 use Rattle.theory_run.proofs.Following.{run_posts}
 use Rattle.theory_run.proofs.Worlds.Committed.{all_push}
 use Rattle.theory_next.specs.MetAlone.{IsAlone}
-use Rattle.theory_next.specs.MetShown.{SaysAlone, predicate_by, predicate_at, ShowsIt, IsMetBy, MetShown, MetShownTheorem}
+use Rattle.theory_next.specs.MetShown.{SaysAlone, predicate_by, predicate_at, ShowsIt, IsMetBy, MetShownTheorem}
 use Rattle.theory_next.specs.Ready.{CanUnlessHalts}
 use Rattle.theory_next.proofs.Apart.{among_in}
 use Rattle.theory_next.proofs.ByHand as hands

@@ -1,15 +1,13 @@
 -- A contract waits for a party exactly where a printed line names it for something that it can do now, or says that it can do what an event
 -- lacks that isn't printed.
 use Rattle.std.proofs.Common.{◌≡◌, ℕ, ◌<◌, List, [], ◌∷◌, ◌++◌, map, Bool, true, false, Option, Some, None, refl, sym, ap, ◌∙◌, subst, inl, inr, ◌⊎◌, arith, append_assoc}
-use Rattle.std.specs.Prelude.{◌↔◌, ◌==◌, codes, flat_map, not, if◌then◌else◌, is_some}
+use Rattle.std.specs.Prelude.{◌==◌, codes, flat_map, not, if◌then◌else◌}
 use Rattle.std.specs.List.{Contains, filter, list_all}
 use Rattle.std.specs.Fmt.{decimal}
 use Rattle.std.specs.Str.{bytes_eq}
 use Rattle.std.proofs.lemmas.Bool.{and_from, and_parts, or_left, eq-eqb}
-use Rattle.std.proofs.lemmas.List.Concat.{flat_map-append, flat_map-cons}
+use Rattle.std.proofs.lemmas.List.Concat.{flat_map-append}
 use Rattle.spec_terms.specs.Advert.{Advert}
-use Rattle.spec_terms.specs.Core.{core, asks, puts_of, reveals_of}
-use Rattle.spec_terms.specs.Parties.{participants}
 use Rattle.spec_terms.specs.Precondition.{Holding, persistent}
 use Rattle.spec_calculus.specs.Configuration.{Configuration}
 use Rattle.spec_calculus.specs.Beginning.{contract_at, participants_of, pre_of, is_init_authorised}
@@ -23,7 +21,7 @@ use Rattle.spec_run.specs.Setup.{Setup, is_honest}
 use Rattle.spec_run.specs.World.{World, is_advertised}
 use Rattle.spec_run.specs.Translation.{last_configuration, last_world}
 use Rattle.spec_run.specs.Statements.{IsRun}
-use Rattle.spec_text.specs.RunText.{newline, event_text}
+use Rattle.spec_text.specs.RunText.{newline}
 use Rattle.spec_text.specs.StepText.{branch_text as branch_words}
 use Rattle.spec_next.specs.declared.lead.Lead.{Lead}
 use Rattle.spec_next.specs.declared.requirement.Requirement.{Requirement}
@@ -37,13 +35,12 @@ use Rattle.spec_next.specs.Hands.{is_in_hand}
 use Rattle.spec_next.specs.Leads.{lead_at}
 use Rattle.spec_next.specs.Listed.{phase, is_later, before, from_branches, is_before, is_by, is_asked, by_party, is_meant, of_party, listed_of}
 use Rattle.spec_next.specs.OutlookText.{prospect_line, ruling_line, lead_line, lead_text, event_lead, before_text, branch_text, prospects_text, waits_line, contract_line, outlook_text}
-use Rattle.spec_next.specs.Prospects.{ruling, is_never, is_refused, is_lost, is_shown, is_over, requirements_by, outstanding, prospect, prospects_of, living, useful, awaited, outlook}
-use Rattle.spec_next.specs.Requirements.{Condition, agreed, bound, isnt_gone, endorsed, endorsed_for, started, conditions, unmet, requirements_of}
-use Rattle.spec_next.specs.Together.{once, spaced, ending, together_text, is_alike, parties_alike, joined_text, joined_line, requirements_text}
+use Rattle.spec_next.specs.Prospects.{ruling, is_never, is_refused, is_lost, is_shown, is_over, requirements_by, outstanding, prospect, awaited, outlook}
+use Rattle.spec_next.specs.Requirements.{Condition, agreed, isnt_gone, endorsed, endorsed_for, started, conditions, unmet, requirements_of}
+use Rattle.spec_next.specs.Together.{spaced, ending, together_text, is_alike, parties_alike, joined_text, joined_line, requirements_text}
 use Rattle.theory_calculus.specs.Members.{Is_in}
 use Rattle.theory_calculus.proofs.Members.{in_left, in_right, in_filter, filter_has, in_from_contains, contains_from_in, all_in, all_append}
 use Rattle.theory_calculus.proofs.Names.{bytes-true, bytes_refl}
-use Rattle.theory_next.specs.Candidates.{GoesThrough}
 use Rattle.theory_next.specs.Listed.{ComesLater}
 use Rattle.theory_next.specs.Named.{requirement_lines, lead_lines, event_lines, branch_lines, all_missing, prospects_lines, printed_lines, in_lines}
 use Rattle.theory_next.specs.Named.{NamesParty, IsTogether, IsNamed, IsOffered, MayWait, PrintsAll, WaitsByLines, WaitsAreNamed}
@@ -52,7 +49,7 @@ use Rattle.theory_next.proofs.Asked.{events_asked}
 use Rattle.theory_next.proofs.Complete.{in_flat_map, from_flat_map}
 use Rattle.theory_next.proofs.Exact.{in_map, from_map, is_failing}
 use Rattle.theory_next.proofs.Listed.{nothing_is_left_out}
-use Rattle.theory_next.proofs.Never.{in_living, in_useful, is_false, lacks_condition}
+use Rattle.theory_next.proofs.Never.{in_living, in_useful, lacks_condition}
 use Rattle.theory_next.proofs.Said.{can_is_meant}
 use Rattle.theory_next.proofs.Together.{lines_name_all}
 use Rattle.theory_next.proofs.Waits.{committing_requirement, waits_are_meant}

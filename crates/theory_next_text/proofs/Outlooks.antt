@@ -30,7 +30,7 @@ use Rattle.spec_next.specs.Listed.{listed_of, next_phase, of_party}
 use Rattle.spec_next.specs.OutlookText.{ruling_line, prospect_line, lead_text, event_lead, before_text, branch_text, prospects_text}
 use Rattle.spec_next.specs.OutlookText.{made_text, waits_line, outlook_text, outlooks_text}
 use Rattle.spec_next.specs.Prospects.{awaited, outlooks}
-use Rattle.spec_next.specs.Together.{with_line, once_onto, once, is_alike, named, parties_alike, joined_text, joined_line, requirements_text}
+use Rattle.spec_next.specs.Together.{with_line, once_onto, is_alike, named, parties_alike, joined_text, joined_line, requirements_text}
 use Rattle.theory_text.proofs.Options.{some_is}
 use Rattle.theory_play_text.specs.Printable.{IsNamed}
 use Rattle.theory_next_text.specs.Lines.{NextLine, next_line, next_of}

@@ -23,7 +23,9 @@ unfolding filled_at
 filled_goes_on prefix next items is i new left seen now bytes w after total cut count filled flag pushed h so_far =
     let less : left - 1 ≡ length is = less_one items is i left cut count in
     let reads : witness_at (may_be (length is) seen) bytes ≡ Ok (w, after) = rw (← less) h in
-    let one : with_prefix prefix (filled_at (i ∷ is) seen bytes) ≡ with_prefix (prefix ++ record i { witness = w } ∷ []) (filled_at is (seen || is_filled w) after) = rw reads (regroup prefix (record i { witness = w }) (filled_at is (seen || is_filled w) after)) in
+    let one : with_prefix prefix (filled_at (i ∷ is) seen bytes)
+    ≡ with_prefix (prefix ++ record i { witness = w } ∷ []) (filled_at is (seen || is_filled w) after) =
+    rw reads (regroup prefix (record i { witness = w }) (filled_at is (seen || is_filled w) after)) in
     rw (pushed, filled, flag) (sym one ∙ ap (λ l. with_prefix prefix (filled_at l seen bytes)) (sym cut) ∙ so_far)
 
 pub filled_ends : (e : ReadError) (prefix items is : List TxIn) (i : TxIn) (left : ℕ) (seen : Bool) (bytes : List ℕ) (total : Result (List TxIn × List ℕ) ℕ)
@@ -41,7 +43,8 @@ pub filled_done : (prefix items : List TxIn) (seen : Bool) (bytes : List ℕ) (t
     → with_prefix prefix (filled_at items seen bytes) ≡ total → total ≡ Ok (prefix, bytes)
 unfolding filled_at
 filled_done prefix items seen bytes total none so_far =
-    let one : with_prefix prefix (filled_at [] seen bytes) ≡ Ok (prefix, bytes) = ap (λ (l : List TxIn). let r : Result (List TxIn × List ℕ) ℕ = Ok (l, bytes) in r) (append-nil prefix) in
+    let one : with_prefix prefix (filled_at [] seen bytes) ≡ Ok (prefix, bytes) =
+    ap (λ (l : List TxIn). let r : Result (List TxIn × List ℕ) ℕ = Ok (l, bytes) in r) (append-nil prefix) in
     sym so_far ∙ ap (λ l. with_prefix prefix (filled_at l seen bytes)) none ∙ one
 
 -- ---- the same as reading all witnesses first
@@ -74,19 +77,23 @@ filled_is (i ∷ is) seen bytes = filled_after i is seen (filled_is is) (witness
 -- ---- after the marker
 
 put_outputs : (body : Body × List ℕ) (read : Result (List (List (List ℕ)) × List ℕ) ℕ)
-    → (then_put body.0.0 read >>= λ inputs. let r : Result (Body × List ℕ) ℕ = Ok ((inputs.0, body.0.1), inputs.1) in r) ≡ (read >>= λ ws. let r : Result (Body × List ℕ) ℕ = Ok ((with_witnesses body.0.0 ws.0, body.0.1), ws.1) in r)
+    → (then_put body.0.0 read >>= λ inputs. let r : Result (Body × List ℕ) ℕ = Ok ((inputs.0, body.0.1), inputs.1) in r)
+    ≡ (read >>= λ ws. let r : Result (Body × List ℕ) ℕ = Ok ((with_witnesses body.0.0 ws.0, body.0.1), ws.1) in r)
 put_outputs body (Ok ws) = refl
 put_outputs body (Err e) = refl
 
 after_body : (read : Result (Body × List ℕ) ℕ)
     → (read >>= λ body. filled_at body.0.0 false body.1 >>= λ inputs. let r : Result (Body × List ℕ) ℕ = Ok ((inputs.0, body.0.1), inputs.1) in r)
-    ≡ (read >>= λ body. witnesses_at (length body.0.0) false body.1 >>= λ ws. let r : Result (Body × List ℕ) ℕ = Ok ((with_witnesses body.0.0 ws.0, body.0.1), ws.1) in r)
+    ≡ (read >>= λ body. witnesses_at (length body.0.0) false body.1 >>= λ ws. let r : Result (Body × List ℕ) ℕ =
+    Ok ((with_witnesses body.0.0 ws.0, body.0.1), ws.1) in r)
 after_body (Ok body) = rw (filled_is body.0.0 false body.1) (put_outputs body (witnesses_at (length body.0.0) false body.1))
 after_body (Err e) = refl
 
 after_flag : (read : Result (ℕ × List ℕ) ℕ)
-    → (read >>= λ flag. plain_at flag.1 >>= λ body. filled_at body.0.0 false body.1 >>= λ inputs. let r : Result (Body × List ℕ) ℕ = Ok ((inputs.0, body.0.1), inputs.1) in r)
-    ≡ (read >>= λ flag. plain_at flag.1 >>= λ body. witnesses_at (length body.0.0) false body.1 >>= λ ws. let r : Result (Body × List ℕ) ℕ = Ok ((with_witnesses body.0.0 ws.0, body.0.1), ws.1) in r)
+    → (read >>= λ flag. plain_at flag.1 >>= λ body. filled_at body.0.0 false body.1 >>= λ inputs. let r : Result (Body × List ℕ) ℕ =
+    Ok ((inputs.0, body.0.1), inputs.1) in r)
+    ≡ (read >>= λ flag. plain_at flag.1 >>= λ body. witnesses_at (length body.0.0) false body.1 >>= λ ws. let r : Result (Body × List ℕ) ℕ =
+    Ok ((with_witnesses body.0.0 ws.0, body.0.1), ws.1) in r)
 after_flag (Ok flag) = after_body (plain_at flag.1)
 after_flag (Err e) = refl
 
@@ -101,5 +108,6 @@ gives_same view r a b e h = rw (← e) h
 pub gives_marked : {X : Type 0} (view : X → Body × List ℕ) (r : Result X ReadError) (bytes rest : List ℕ) (b : ℕ) → bytes ≡ b ∷ rest → b ≡ 0
     → Gives view r (after_marker rest) → Gives view r (choose is_zero marked_at plain_at bytes)
 gives_marked view r bytes rest b cut is h =
-    let one : choose is_zero marked_at plain_at (0 ∷ rest) ≡ choose is_zero marked_at plain_at bytes = ap (λ (n : ℕ). choose is_zero marked_at plain_at (n ∷ rest)) (sym is) ∙ ap (choose is_zero marked_at plain_at) (sym cut) in
+    let one : choose is_zero marked_at plain_at (0 ∷ rest) ≡ choose is_zero marked_at plain_at bytes =
+    ap (λ (n : ℕ). choose is_zero marked_at plain_at (n ∷ rest)) (sym is) ∙ ap (choose is_zero marked_at plain_at) (sym cut) in
     gives_same view r (after_marker rest) (choose is_zero marked_at plain_at bytes) (marked_zero rest ∙ one) h

@@ -21,7 +21,8 @@ pub goes_on : {A : Type 0} (read : List ℕ → Result (A × List ℕ) ℕ) (pre
 unfolding many
 goes_on read prefix count i bytes n after total lt h so_far =
     let k : count - i ≡ suc (count - (i + 1)) = omega arith in
-    let one : with_prefix prefix (many read (count - i) bytes) ≡ with_prefix (prefix ++ n ∷ []) (many read (count - (i + 1)) after) = rw (k, h) (regroup prefix n (many read (count - (i + 1)) after)) in
+    let one : with_prefix prefix (many read (count - i) bytes) ≡ with_prefix (prefix ++ n ∷ []) (many read (count - (i + 1)) after) =
+    rw (k, h) (regroup prefix n (many read (count - (i + 1)) after)) in
     sym one ∙ so_far
 
 pub ends : {A : Type 0} (read : List ℕ → Result (A × List ℕ) ℕ) (e : ReadError) (prefix : List A) (count i : ℕ) (bytes : List ℕ)

@@ -10,13 +10,18 @@ overflow_sub-left c = let n = c.loop-input.invariant.0 ∙ ap length c.in-Some.e
 pub returns-in_err-witness : goal.returns-in_err-witness
 returns-in_err-witness c =
     let p = err_from_is_err_and c.from_residual.result c.from_residual.ensures.1 in
-    rw (p.1, p.2) (filled_ends c.in_err-witness.field-0.0 c.loop-input.all c.loop-input.input-iterator.rest.items c.next.new.self.rest.items c.in-Some.input c.loop-input.left c.loop-input.seen c.loop-input.rest.now _ c.in-Some.ensures.steps.0 c.loop-input.invariant.0 c.in_err-witness.ensures c.loop-input.invariant.1)
+    rw (p.1, p.2) (filled_ends c.in_err-witness.field-0.0
+    c.loop-input.all c.loop-input.input-iterator.rest.items c.next.new.self.rest.items c.in-Some.input c.loop-input.left c.loop-input.seen
+    c.loop-input.rest.now _ c.in-Some.ensures.steps.0 c.loop-input.invariant.0 c.in_err-witness.ensures c.loop-input.invariant.1)
 
 pub loop-input-preserved : goal.loop-input-preserved
 loop-input-preserved c =
     let n = c.loop-input.invariant.0 ∙ ap length c.in-Some.ensures.steps.0 in (
       omega (arith, n),
-      filled_goes_on c.loop-input.all c.push.new.self c.loop-input.input-iterator.rest.items c.next.new.self.rest.items c.in-Some.input c.filled.result c.loop-input.left c.loop-input.seen c.is_seen-seen.result c.loop-input.rest.now c.in_ok-witness.witness c.in_ok-witness.after.now _ c.in-Some.ensures.steps.0 c.loop-input.invariant.0 c.filled.ensures c.is_seen-seen.ensures c.in_ok-push.ensures.ok c.in_ok-witness.ensures c.loop-input.invariant.1,
+      filled_goes_on c.loop-input.all c.push.new.self
+          c.loop-input.input-iterator.rest.items c.next.new.self.rest.items c.in-Some.input c.filled.result c.loop-input.left c.loop-input.seen
+          c.is_seen-seen.result c.loop-input.rest.now c.in_ok-witness.witness c.in_ok-witness.after.now _ c.in-Some.ensures.steps.0
+          c.loop-input.invariant.0 c.filled.ensures c.is_seen-seen.ensures c.in_ok-push.ensures.ok c.in_ok-witness.ensures c.loop-input.invariant.1,
     )
 
 pub returns : goal.returns

@@ -121,7 +121,8 @@ module _ (prefix : List (List ℕ)) (s : List ℕ) (places : Places) (is : IsPla
 
   -- ---- where the last string is the first of its fingerprint
 
-  pub forgotten_fingerprint : (after : BTreeMap ℕ ℕ) (m : ℕ) → m ≡ fingerprint_of s → is_place (place_by_fingerprint places.by_fingerprint m) (length prefix) ≡ true
+  pub forgotten_fingerprint : (after : BTreeMap ℕ ℕ) (m : ℕ)
+      → m ≡ fingerprint_of s → is_place (place_by_fingerprint places.by_fingerprint m) (length prefix) ≡ true
       → tree.UpdatesBy nat_cmp (λ k. nat_cmp m k) places.by_fingerprint after None
       → IsPlaced prefix (record { by_fingerprint = after; others = places.others })
   forgotten_fingerprint after m of first updates = record {

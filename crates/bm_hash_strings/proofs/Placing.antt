@@ -63,7 +63,10 @@ among-some strings places q p is some =
 
 -- another map tells the same of each fingerprint
 pub placed_same-by_fingerprint : (strings : List (List ℕ)) (places : Places) (after : BTreeMap ℕ ℕ) → IsPlaced strings places
-    → ((m : ℕ) → place_by_fingerprint after m ≡ place_by_fingerprint places.by_fingerprint m) → IsPlaced strings (record { by_fingerprint = after; others = places.others })
+    → ((m : ℕ) → place_by_fingerprint after m ≡ place_by_fingerprint places.by_fingerprint m) → IsPlaced strings (record {
+      by_fingerprint = after;
+      others = places.others;
+    })
 placed_same-by_fingerprint strings places after is still = record {
   at = λ q. ap (λ o. place_by strings q o (found_at places.others q)) (still (fingerprint_of q)) ∙ is.at q;
   fingerprints = λ m p h. is.fingerprints m p (sym (still m) ∙ h);
@@ -105,13 +108,15 @@ module _ (strings : List (List ℕ)) (places : Places) (is : IsPlaced strings pl
   pub placed_kept : (first ≡ place → ⊥) → IsPlaced strings (record { by_fingerprint = after; others = places.others })
   placed_kept other = placed_same-by_fingerprint strings places after is (λ n. by_place (place_by_fingerprint places.by_fingerprint m) refl n (m == n) refl)
     where
-      by_place : (o : Option ℕ) → place_by_fingerprint places.by_fingerprint m ≡ o → (n : ℕ) (b : Bool) → m == n ≡ b → place_by_fingerprint after n ≡ place_by_fingerprint places.by_fingerprint n
+      by_place : (o : Option ℕ) → place_by_fingerprint places.by_fingerprint m ≡ o
+          → (n : ℕ) (b : Bool) → m == n ≡ b → place_by_fingerprint after n ≡ place_by_fingerprint places.by_fingerprint n
       by_place None h n b e = absurd (other (had ∙ ap (λ o. unwrap_or o place) h))
       by_place (Some p) h n false e = fingerprint_elsewhere m places.by_fingerprint after (Some first) updates n e
       by_place (Some p) h n true e =
           let same : m ≡ n = grind arith in
           let at : first ≡ p = had ∙ ap (λ o. unwrap_or o place) h in
-          fingerprint_there m places.by_fingerprint after (Some first) updates n same ∙ ap Some at ∙ subst (λ k. Some p ≡ place_by_fingerprint places.by_fingerprint k) same (sym h)
+          fingerprint_there m places.by_fingerprint after (Some first) updates n same
+          ∙ ap Some at ∙ subst (λ k. Some p ≡ place_by_fingerprint places.by_fingerprint k) same (sym h)
 
   -- it wasn't
   pub none_had : place ≡ length strings → first ≡ place → is_some (place_by_fingerprint places.by_fingerprint m) ≡ false
@@ -236,7 +241,8 @@ module _ (strings : List (List ℕ)) (places : Places) (is : IsPlaced strings pl
 
   -- ---- a string of a new fingerprint
 
-  pub placed_fingerprint : (next : List (List ℕ)) (after : BTreeMap ℕ ℕ) (m place : ℕ) → m ≡ fingerprint_of s → is_some (place_by_fingerprint places.by_fingerprint m) ≡ false
+  pub placed_fingerprint : (next : List (List ℕ)) (after : BTreeMap ℕ ℕ) (m place : ℕ)
+      → m ≡ fingerprint_of s → is_some (place_by_fingerprint places.by_fingerprint m) ≡ false
       → place ≡ length strings → next ≡ strings ++ s ∷ []
       → tree.UpdatesBy nat_cmp (λ k. nat_cmp m k) places.by_fingerprint after (Some place)
       → IsPlaced next (record { by_fingerprint = after; others = places.others })
@@ -310,7 +316,8 @@ module _ (strings : List (List ℕ)) (places : Places) (is : IsPlaced strings pl
 
   -- the same, as the index is told of it
   pub placed_first : (next : List (List ℕ)) (after : BTreeMap ℕ ℕ) (m first place : ℕ) → m ≡ fingerprint_of s
-      → first ≡ unwrap_or (place_by_fingerprint places.by_fingerprint m) place → tree.UpdatesBy nat_cmp (λ k. nat_cmp m k) places.by_fingerprint after (Some first)
+      → first ≡ unwrap_or (place_by_fingerprint places.by_fingerprint m) place
+      → tree.UpdatesBy nat_cmp (λ k. nat_cmp m k) places.by_fingerprint after (Some first)
       → place ≡ length strings → next ≡ strings ++ s ∷ [] → first ≡ place → IsPlaced next (record { by_fingerprint = after; others = places.others })
   placed_first next after m first place of had updates here e same =
       placed_fingerprint next after m place of (none_had strings places is after m first place had updates here same) here e
@@ -356,7 +363,8 @@ module _ (strings : List (List ℕ)) (places : Places) (is : IsPlaced strings pl
           ∙ ap (λ b. cond b (Some first.0) (found_at after s)) there ∙ f) found
 
       by : (q : List ℕ) (b : Bool) → bytes_eq s q ≡ b
-          → place_by (strings ++ s ∷ []) q (place_by_fingerprint places.by_fingerprint (fingerprint_of q)) (found_at after q) ≡ first_place (strings ++ s ∷ []) q
+          → place_by (strings ++ s ∷ []) q (place_by_fingerprint places.by_fingerprint (fingerprint_of q)) (found_at after q)
+          ≡ first_place (strings ++ s ∷ []) q
       by q true h =
           let same = (bytes_eq-Decides s q).0 h in
           let none : first_place strings q ≡ None = ap (first_place strings) (sym same) ∙ unplaced strings s new in

@@ -5,7 +5,8 @@ use Rattle.bm_hash_strings.proofs.strings.forget_last.Goals as goal
 
 pub returns-then-is_here : goal.returns-then-is_here
 returns-then-is_here c = λ prefix here is.
-    forgotten_fingerprint prefix c.args.string.now c.args.places.now is c.remove.new.self c.fingerprint_of-fingerprint.result c.fingerprint_of-fingerprint.ensures
+    forgotten_fingerprint prefix c.args.string.now
+    c.args.places.now is c.remove.new.self c.fingerprint_of-fingerprint.result c.fingerprint_of-fingerprint.ensures
     (told _ _ _ _ _ _ c.get.ensures.value here c.is_here.ensures c.if-is_here.true) c.remove.ensures.updates
 
 pub returns-then-is_here-2 : goal.returns-then-is_here-2

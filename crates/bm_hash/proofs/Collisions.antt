@@ -21,7 +21,8 @@ pair_with m e = (e, m)
 pub collision_of_noted : (hash : Message → Message) (ms : List Message) (m : Message) → evidence_of hash ms ≡ None → is_among m ms ≡ true
     → collision_with hash ms m ≡ None
 collision_of_noted hash ms m clear there =
-    elim (find (λ e. bytes_eq (hash e) (hash m) && not (bytes_eq e m)) ms) as (λ o. find (λ e. bytes_eq (hash e) (hash m) && not (bytes_eq e m)) ms ≡ o → option_map (pair_with m) o ≡ None) [
+    elim (find (λ e. bytes_eq (hash e) (hash m) && not (bytes_eq e m)) ms) as
+    (λ o. find (λ e. bytes_eq (hash e) (hash m) && not (bytes_eq e m)) ms ≡ o → option_map (pair_with m) o ≡ None) [
       | None ↦ λ found. refl
       | Some e ↦ λ found.
           let at = find_among _ ms e found in
@@ -53,7 +54,8 @@ pub evidence_of-noted_all : (hash : Message → Message) (ms xs : List Message) 
     → evidence_of hash (noted_all hash ms xs) ≡ collision hash ms xs
 evidence_of-noted_all hash ms [] clear = clear
 evidence_of-noted_all hash ms (x ∷ xs) clear =
-    elim (collision_with hash ms x) as (λ o. collision_with hash ms x ≡ o → evidence_of hash (noted_all hash (noted hash ms x) xs) ≡ option_or o (collision hash (messages.noted ms x) xs)) [
+    elim (collision_with hash ms x) as (λ o. collision_with hash ms x ≡ o
+    → evidence_of hash (noted_all hash (noted hash ms x) xs) ≡ option_or o (collision hash (messages.noted ms x) xs)) [
       | None ↦ λ none. ap (λ l. evidence_of hash (noted_all hash l xs)) (noted-clear hash ms x clear)
           ∙ evidence_of-noted_all hash (messages.noted ms x) xs (still_clear hash ms x clear none)
       | Some p ↦ λ some.

@@ -161,7 +161,8 @@ pub hash_fresh : (hash : Message → Message) (ms : List Message) (m : Message) 
     ≡ None → (noted hash ms m ≡ ms ++ m ∷ []) × (evidence_of hash (ms ++ m ∷ []) ≡ None)
 hash_fresh hash ms m h none =
     let new : is_among m ms ≡ false = unnoted ms m (message_at hash ms m none) in
-    let apart : find (λ x. bytes_eq (hash x) (hash m) && not (bytes_eq x m)) ms ≡ None = find_and_none (λ x. bytes_eq (hash x) (hash m)) (λ x. not (bytes_eq x m)) ms none in
+    let apart : find (λ x. bytes_eq (hash x) (hash m) && not (bytes_eq x m)) ms ≡ None =
+    find_and_none (λ x. bytes_eq (hash x) (hash m)) (λ x. not (bytes_eq x m)) ms none in
     (rw (h, new) refl, evidence_push hash [] ms m ∙ rw (h, apart) refl)
 
 -- the message is there
@@ -177,8 +178,10 @@ pub hash_collision : (hash : Message → Message) (ms : List Message) (m e : Mes
 hash_collision hash ms m e h found other =
     let at = find_among (λ x. bytes_eq (hash x) (hash m)) ms e found in
     let digests : hash e ≡ hash m = (bytes_eq-Decides (hash e) (hash m)).0 at.1 in
-    let new : is_among m ms ≡ false = unnoted ms m (λ there. let same = apart hash [] ms e m h at.0 there digests in let holds = (bytes_eq-Decides e m).1 same in cc) in
-    let it : find (λ x. bytes_eq (hash x) (hash m) && not (bytes_eq x m)) ms ≡ Some e = find_and (λ x. bytes_eq (hash x) (hash m)) (λ x. not (bytes_eq x m)) ms e found (ap not other) in
+    let new : is_among m ms ≡ false =
+    unnoted ms m (λ there. let same = apart hash [] ms e m h at.0 there digests in let holds = (bytes_eq-Decides e m).1 same in cc) in
+    let it : find (λ x. bytes_eq (hash x) (hash m) && not (bytes_eq x m)) ms ≡ Some e =
+    find_and (λ x. bytes_eq (hash x) (hash m)) (λ x. not (bytes_eq x m)) ms e found (ap not other) in
     (rw (h, new) refl, evidence_push hash [] ms m ∙ rw (h, it) refl)
 
 -- nothing is added after a collision
@@ -197,7 +200,8 @@ pub place_push : (hash : Message → Message) (ms : List Message) (m d : Message
     ≡ option_or (place_of hash ms d) (cond (bytes_eq (hash m) d) (Some (length ms)) None)
 place_push hash [] m d = refl
 place_push hash (x ∷ xs) m d =
-    elim (bytes_eq (hash x) d) as (λ b. cond b (Some 0) (option_map (λ k. k + 1) (place_of hash (xs ++ m ∷ []) d)) ≡ option_or (cond b (Some 0) (option_map (λ k. k + 1) (place_of hash xs d))) (cond (bytes_eq (hash m) d) (Some (suc (length xs))) None)) [
+    elim (bytes_eq (hash x) d) as (λ b. cond b (Some 0) (option_map (λ k. k + 1) (place_of hash (xs ++ m ∷ []) d))
+    ≡ option_or (cond b (Some 0) (option_map (λ k. k + 1) (place_of hash xs d))) (cond (bytes_eq (hash m) d) (Some (suc (length xs))) None)) [
       | true ↦ refl
       | false ↦ ap (option_map (λ k. k + 1)) (place_push hash xs m d) ∙ option_map_some (place_of hash xs d) (length xs) (bytes_eq (hash m) d)
     ]
@@ -223,7 +227,8 @@ place_within hash (x ∷ xs) d k h =
 pub get_place : (hash : Message → Message) (ms : List Message) (d : Message) → option_and_then (slice_get ms) (place_of hash ms d) ≡ message_of hash ms d
 get_place hash [] d = refl
 get_place hash (x ∷ xs) d =
-    elim (bytes_eq (hash x) d) as (λ b. option_and_then (slice_get (x ∷ xs)) (cond b (Some 0) (option_map (λ k. k + 1) (place_of hash xs d))) ≡ cond b (Some x) (message_of hash xs d)) [
+    elim (bytes_eq (hash x) d) as (λ b. option_and_then (slice_get (x ∷ xs)) (cond b (Some 0) (option_map (λ k. k + 1) (place_of hash xs d)))
+    ≡ cond b (Some x) (message_of hash xs d)) [
       | true ↦ refl
       | false ↦ get_next x xs (place_of hash xs d) ∙ get_place hash xs d
     ]
@@ -266,8 +271,12 @@ shown hash before (m ∷ ms) a b h = ⊎_elim
     let t = find_among (λ x. bytes_eq (hash x) (hash m) && not (bytes_eq x m)) before f.0 f.1 in
     let is_a = ap (λ (q : Message × Message). q.0) f.2 in
     let is_b = ap (λ (q : Message × Message). q.1) f.2 in
-    let p = both_true _ _ t.1 in
-    (among_left before (m ∷ ms) a (subst (Among before) is_a t.0), inl is_b, λ same. let holds = (bytes_eq-Decides f.0 m).1 (is_a ∙ same ∙ sym is_b) in false≢true (sym p.1 ∙ holds), sym (ap hash is_a) ∙ (bytes_eq-Decides (hash f.0) (hash m)).0 p.0 ∙ ap hash is_b))
+    let p = both_true _ _ t.1 in (
+      among_left before (m ∷ ms) a (subst (Among before) is_a t.0),
+      inl is_b,
+      λ same. let holds = (bytes_eq-Decides f.0 m).1 (is_a ∙ same ∙ sym is_b) in false≢true (sym p.1 ∙ holds),
+      sym (ap hash is_a) ∙ (bytes_eq-Decides (hash f.0) (hash m)).0 p.0 ∙ ap hash is_b,
+    ))
     (λ later.
     let r = shown hash (before ++ m ∷ []) ms a b later in
     (subst (λ l. Among l a) (append_assoc before (m ∷ []) ms) r.0, inr r.1, r.2, r.3))

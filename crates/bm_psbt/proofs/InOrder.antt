@@ -188,7 +188,8 @@ signatures_ascend (r ∷ rs) h = by_type (eqb (type_of r) 2) refl (signatures_as
     by_type : (t : Bool) → eqb (type_of r) 2 ≡ t → are_ascending (names_of (signatures_in rs)) ≡ true
         → are_ascending (names_of (if t then (key_behind_type (r.0), r.1) ∷ signatures_in rs else signatures_in rs)) ≡ true
     by_type true e later =
-        let before : Before (2 ∷ key_behind_type (r.0)) (names_of rs) = subst (λ (x : List ℕ). Before x (names_of rs)) (sym (whole_key (r.0) (r.1) e)) (first_before (r.0) (names_of rs) h) in
+        let before : Before (2 ∷ key_behind_type (r.0)) (names_of rs) =
+        subst (λ (x : List ℕ). Before x (names_of rs)) (sym (whole_key (r.0) (r.1) e)) (first_before (r.0) (names_of rs) h) in
         ascend_with (key_behind_type (r.0)) (names_of (signatures_in rs)) (signatures_before (key_behind_type (r.0)) rs before) later
     by_type false e later = later
 
@@ -207,7 +208,13 @@ input_same rs h =
     let all = ap is_some (found (3 ∷ []) rs h) in
     let script = found (5 ∷ []) rs h in
     let witness = ap (λ (o : Option (List ℕ)). o >>= λ bytes. witness_of bytes) (found (8 ∷ []) rs h) in
-    let said : said_in (put_all [] rs) ≡ input_said rs = λ k. record { spent = spent k; partial = partial k; all = all k; script = script k; witness = witness k } in
+    let said : said_in (put_all [] rs) ≡ input_said rs = λ k. record {
+      spent = spent k;
+      partial = partial k;
+      all = all k;
+      script = script k;
+      witness = witness k;
+    } in
     ap (λ (t : Bool). given t (said_in (put_all [] rs))) (each input_fits rs) ∙ ap (λ (i : PsbtInput). given (list_all input_fits rs) i) said
 
 abbrev tx_in : List Pairing → Option Tx

@@ -33,7 +33,8 @@ pub joined_turn : (inputs others next all all2 : List PsbtInput) (i : ℕ) (x : 
 joined_turn inputs others next all all2 i x total lt at a b e is so_far =
     let n : suc i ≡ i + 1 = omega arith in
     let cut : drop i inputs ≡ x ∷ drop (i + 1) inputs = drop-cons inputs i x lt ∙ (λ k. sym at k ∷ drop (n k) inputs) in
-    let prefix : all2 ++ inputs_joined (drop (i + 1) inputs) next ≡ all ++ (joined_head x others ∷ inputs_joined (drop (i + 1) inputs) (tail_of others)) = rw (e, is) (simp append_assoc) in
+    let prefix : all2 ++ inputs_joined (drop (i + 1) inputs) next ≡ all ++ (joined_head x others ∷ inputs_joined (drop (i + 1) inputs) (tail_of others)) =
+    rw (e, is) (simp append_assoc) in
     record {
       inputs = and_right (signs_ascend x) (list_all signs_ascend (drop (i + 1) inputs)) (subst (λ (l : List PsbtInput). list_all signs_ascend l ≡ true) cut a);
       others = subst (λ (l : List PsbtInput). list_all signs_ascend l ≡ true) (sym is) (tail_ascends others b);

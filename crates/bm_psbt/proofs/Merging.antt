@@ -63,7 +63,10 @@ at_first_found key (q ∷ qs) h = by_test (is_before (q.0) key) refl (at_first_f
       where
         by_order : (u : Bool) → is_before key (q.0) ≡ u → u ≡ true
         by_order true g = refl
-        by_order false g = let level : bytes_eq (q.0) key ≡ true = subst (λ (x : List ℕ). bytes_eq (q.0) x ≡ true) (before_both (q.0) key f g) (bytes_same (q.0)) in absurd cc
+        by_order false g =
+            let level : bytes_eq (q.0) key ≡ true =
+            subst (λ (x : List ℕ). bytes_eq (q.0) x ≡ true) (before_both (q.0) key f g) (bytes_same (q.0)) in
+            absurd cc
 
     by_test : (t : Bool) → is_before (q.0) key ≡ t → at_first key (not_before key qs) ≡ look_up key qs
         → at_first key (if t then not_before key qs else q ∷ qs) ≡ look_up key (q ∷ qs)
@@ -126,7 +129,8 @@ joined_second : (q p : Pairing) (ps qs : List Pairing) → is_before (q.0) (p.0)
 joined_second q p ps qs h a b =
     let before_ps : Before (q.0) (names_of (p ∷ ps)) = (h, all_before (q.0) (p.0) (names_of ps) h (first_before (p.0) (names_of ps) a)) in
     let tail = others_ascend (q.0) (names_of qs) b in
-    let before = before_joined (q.0) (p ∷ ps) qs before_ps (first_before (q.0) (names_of qs) b) a tail (signatures_joined (p ∷ ps) qs) (λ k. joined_found k (p ∷ ps) qs) (joined_ascend (p ∷ ps) qs a) in
+    let before = before_joined (q.0) (p ∷ ps) qs before_ps (first_before (q.0) (names_of qs) b) a tail
+    (signatures_joined (p ∷ ps) qs) (λ k. joined_found k (p ∷ ps) qs) (joined_ascend (p ∷ ps) qs a) in
     joined_is (p ∷ ps) (q ∷ qs) (q ∷ signatures_joined (p ∷ ps) qs) a
     (ascend_with (q.0) (names_of (signatures_joined (p ∷ ps) qs)) before (joined_ascend (p ∷ ps) qs a))
     (λ k. by_key before_ps k (bytes_eq (q.0) k) refl)
@@ -144,7 +148,8 @@ joined_first : (p : Pairing) (ps qs rs : List Pairing) → asc (p ∷ ps) → as
     → ((k : List ℕ) → bytes_eq (p.0) k ≡ false → look_up k rs ≡ look_up k qs) → signatures_joined (p ∷ ps) qs ≡ p ∷ signatures_joined ps rs
 joined_first p ps qs rs a b h after same =
     let tail = others_ascend (p.0) (names_of ps) a in
-    let before = before_joined (p.0) ps rs (first_before (p.0) (names_of ps) a) h tail b (signatures_joined ps rs) (λ k. joined_found k ps rs) (joined_ascend ps rs tail) in
+    let before = before_joined (p.0) ps rs (first_before (p.0) (names_of ps) a) h tail b
+    (signatures_joined ps rs) (λ k. joined_found k ps rs) (joined_ascend ps rs tail) in
     joined_is (p ∷ ps) qs (p ∷ signatures_joined ps rs) a (ascend_with (p.0) (names_of (signatures_joined ps rs)) before (joined_ascend ps rs tail))
     (λ k. by_key k (bytes_eq (p.0) k) refl)
   where
@@ -172,7 +177,9 @@ after_key key (q ∷ qs) h = by_test (is_before (q.0) key) refl (after_key key q
   where
     by_order : (u : Bool) → is_before key (q.0) ≡ u → is_before (q.0) key ≡ false → bytes_eq (q.0) key ≡ false → u ≡ true
     by_order true g f e = refl
-    by_order false g f e = let level : bytes_eq (q.0) key ≡ true = subst (λ (x : List ℕ). bytes_eq (q.0) x ≡ true) (before_both (q.0) key f g) (bytes_same (q.0)) in absurd cc
+    by_order false g f e =
+        let level : bytes_eq (q.0) key ≡ true = subst (λ (x : List ℕ). bytes_eq (q.0) x ≡ true) (before_both (q.0) key f g) (bytes_same (q.0)) in
+        absurd cc
 
     by_key : (t : Bool) → bytes_eq (q.0) key ≡ t → is_before (q.0) key ≡ false → Before key (names_of (if t then qs else q ∷ qs))
     by_key true e f = subst (λ (x : List ℕ). Before x (names_of qs)) (same_bytes (q.0) key e) (first_before (q.0) (names_of qs) h)
@@ -209,8 +216,10 @@ pub differ_more : (here others next : List Pairing) (i : ℕ) (p : Pairing) (t t
 differ_more here others next i p t total cut a b is odds calm so_far =
     let a2 : asc (p ∷ drop (i + 1) here) = subst (λ (l : List Pairing). asc l) cut a in
     let b2 : asc next = subst (λ (l : List Pairing). asc l) (sym is) (ascend_not_before (p.0) others b) in
-    let f : are_at_odds bytes_eq (Some (p.1)) (at_first (p.0) (not_before (p.0) others)) ≡ false = ap (λ (l : List Pairing). are_at_odds bytes_eq (Some (p.1)) (at_first (p.0) l)) (sym is) ∙ sym odds ∙ calm in
-    let step : signatures_differ (p ∷ drop (i + 1) here) others ≡ signatures_differ (drop (i + 1) here) (not_before (p.0) others) = differ_step p (drop (i + 1) here) others a2 b ∙ ap (λ (u : Bool). u || signatures_differ (drop (i + 1) here) (not_before (p.0) others)) f in (
+    let f : are_at_odds bytes_eq (Some (p.1)) (at_first (p.0) (not_before (p.0) others)) ≡ false =
+    ap (λ (l : List Pairing). are_at_odds bytes_eq (Some (p.1)) (at_first (p.0) l)) (sym is) ∙ sym odds ∙ calm in
+    let step : signatures_differ (p ∷ drop (i + 1) here) others ≡ signatures_differ (drop (i + 1) here) (not_before (p.0) others) =
+    differ_step p (drop (i + 1) here) others a2 b ∙ ap (λ (u : Bool). u || signatures_differ (drop (i + 1) here) (not_before (p.0) others)) f in (
       others_ascend (p.0) (names_of (drop (i + 1) here)) a2,
       b2,
       ap (signatures_differ (drop (i + 1) here)) is ∙ sym step
@@ -222,8 +231,10 @@ pub differ_found : (here others next : List Pairing) (i : ℕ) (p : Pairing) (t 
     → t ≡ are_at_odds bytes_eq (Some (p.1)) (at_first (p.0) next) → t ≡ true → signatures_differ (drop i here) others ≡ total → true ≡ total
 differ_found here others next i p t total cut a b is odds found so_far =
     let a2 : asc (p ∷ drop (i + 1) here) = subst (λ (l : List Pairing). asc l) cut a in
-    let f : are_at_odds bytes_eq (Some (p.1)) (at_first (p.0) (not_before (p.0) others)) ≡ true = ap (λ (l : List Pairing). are_at_odds bytes_eq (Some (p.1)) (at_first (p.0) l)) (sym is) ∙ sym odds ∙ found in
-    let step : signatures_differ (p ∷ drop (i + 1) here) others ≡ true = differ_step p (drop (i + 1) here) others a2 b ∙ ap (λ (u : Bool). u || signatures_differ (drop (i + 1) here) (not_before (p.0) others)) f in
+    let f : are_at_odds bytes_eq (Some (p.1)) (at_first (p.0) (not_before (p.0) others)) ≡ true =
+    ap (λ (l : List Pairing). are_at_odds bytes_eq (Some (p.1)) (at_first (p.0) l)) (sym is) ∙ sym odds ∙ found in
+    let step : signatures_differ (p ∷ drop (i + 1) here) others ≡ true =
+    differ_step p (drop (i + 1) here) others a2 b ∙ ap (λ (u : Bool). u || signatures_differ (drop (i + 1) here) (not_before (p.0) others)) f in
     sym step ∙ ap (λ (l : List Pairing). signatures_differ l others) (sym cut) ∙ so_far
 
 pub joined_more : (here others next out out1 out2 : List Pairing) (i : ℕ) (p : Pairing) (total : List Pairing) → drop i here ≡ p
@@ -235,7 +246,8 @@ joined_more here others next out out1 out2 i p total cut a b is e1 e2 so_far =
     let a2 : asc (p ∷ drop (i + 1) here) = subst (λ (l : List Pairing). asc l) cut a in
     let b2 : asc next = subst (λ (l : List Pairing). asc l) (sym is) (ascend_without (p.0) (not_before (p.0) others) (ascend_not_before (p.0) others b)) in
     let step = joined_step p (drop (i + 1) here) others a2 b in
-    let prefix : out2 ++ signatures_joined (drop (i + 1) here) next ≡ out ++ (before_key (p.0) others ++ (p ∷ signatures_joined (drop (i + 1) here) (without_first (p.0) (not_before (p.0) others)))) =
+    let prefix : out2 ++ signatures_joined (drop (i + 1) here) next
+    ≡ out ++ (before_key (p.0) others ++ (p ∷ signatures_joined (drop (i + 1) here) (without_first (p.0) (not_before (p.0) others)))) =
     rw (e2, e1, is) (simp append_assoc) in (
       others_ascend (p.0) (names_of (drop (i + 1) here)) a2,
       b2,

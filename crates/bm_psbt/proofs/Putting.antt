@@ -54,7 +54,9 @@ put_in_order key value (e ∷ es) new = by_order (key_cmp key e.0) refl (put_in_
         let t : bytes_eq key.now e.0.now ≡ true = sym (same_cmp key.now e.0.now Equal (sym is)) in
         let f : bytes_eq key.now e.0.now ≡ false = bytes_ne-back e.0.now key.now (or_left _ _ new) in
         absurd cc
-    by_order Greater is later = let t : is_before key.now e.0.now ≡ false = sym (before_cmp key.now e.0.now Greater (sym is)) in rw (is, t) (ap (λ (l : List Pairing). (e.0.now, e.1.now) ∷ l) later)
+    by_order Greater is later =
+        let t : is_before key.now e.0.now ≡ false = sym (before_cmp key.now e.0.now Greater (sym is)) in
+        rw (is, t) (ap (λ (l : List Pairing). (e.0.now, e.1.now) ∷ l) later)
 
 -- whether a key is there
 pub there : (key : List ℕ) (es : List (Bor (List ℕ) × Bor (List ℕ))) (v : Bor (List ℕ)) → lookup (is_key key) es ≡ Some v

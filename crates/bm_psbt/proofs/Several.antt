@@ -31,7 +31,8 @@ pub inputs_more : (prefix : List PsbtInput) (count k : ℕ) (bytes after : List 
 unfolding inputs_at
 inputs_more prefix count k bytes after i total lt h so_far =
     let n : count - k ≡ suc (count - (k + 1)) = omega arith in
-    let one : with_inputs prefix (inputs_at (count - k) bytes) ≡ with_inputs (prefix ++ i ∷ []) (inputs_at (count - (k + 1)) after) = rw (n, h) (regroup prefix i (inputs_at (count - (k + 1)) after)) in
+    let one : with_inputs prefix (inputs_at (count - k) bytes) ≡ with_inputs (prefix ++ i ∷ []) (inputs_at (count - (k + 1)) after) =
+    rw (n, h) (regroup prefix i (inputs_at (count - (k + 1)) after)) in
     sym one ∙ so_far
 
 pub inputs_stop : (e : PsbtError) (prefix : List PsbtInput) (count k : ℕ) (bytes : List ℕ) (total : Inputs) → k < count
@@ -48,7 +49,8 @@ pub inputs_done : (prefix : List PsbtInput) (count k : ℕ) (bytes : List ℕ) (
 unfolding inputs_at
 inputs_done prefix count k bytes total le so_far =
     let n : count - k ≡ 0 = omega arith in
-    let one : with_inputs prefix (inputs_at (count - k) bytes) ≡ Some (prefix, bytes) = rw n (ap (λ (l : List PsbtInput). Some (l, bytes)) (append-nil prefix)) in
+    let one : with_inputs prefix (inputs_at (count - k) bytes) ≡ Some (prefix, bytes) =
+    rw n (ap (λ (l : List PsbtInput). Some (l, bytes)) (append-nil prefix)) in
     sym so_far ∙ one
 
 -- ---- maps of which nothing is kept

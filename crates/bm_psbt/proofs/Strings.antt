@@ -23,7 +23,8 @@ pub behind_more : {A : Type 0} (read : List ℕ → Result (A × List ℕ) ℕ) 
 unfolding many
 behind_more read count i bytes after x total lt h so_far =
     let k : count - i ≡ suc (count - (i + 1)) = omega arith in
-    let one : rest_of (many read (count - i) bytes) ≡ rest_of (many read (count - (i + 1)) after) = rw (k, h) (rest_more x (many read (count - (i + 1)) after)) in
+    let one : rest_of (many read (count - i) bytes) ≡ rest_of (many read (count - (i + 1)) after) =
+    rw (k, h) (rest_more x (many read (count - (i + 1)) after)) in
     sym one ∙ so_far
 
 pub behind_stop : {A : Type 0} (read : List ℕ → Result (A × List ℕ) ℕ) (count i left : ℕ) (bytes : List ℕ) (total : Option (List ℕ))
@@ -60,7 +61,8 @@ pub items_more : {A : Type 0} (read : List ℕ → Result (A × List ℕ) ℕ) (
 unfolding many
 items_more read prefix count i bytes n after total lt h so_far =
     let k : count - i ≡ suc (count - (i + 1)) = omega arith in
-    let one : with_prefix prefix (many read (count - i) bytes) ≡ with_prefix (prefix ++ n ∷ []) (many read (count - (i + 1)) after) = rw (k, h) (regroup prefix n (many read (count - (i + 1)) after)) in
+    let one : with_prefix prefix (many read (count - i) bytes) ≡ with_prefix (prefix ++ n ∷ []) (many read (count - (i + 1)) after) =
+    rw (k, h) (regroup prefix n (many read (count - (i + 1)) after)) in
     sym one ∙ so_far
 
 pub items_stop : {A : Type 0} (read : List ℕ → Result (A × List ℕ) ℕ) (prefix : List A) (count i left : ℕ) (bytes : List ℕ)

@@ -8,4 +8,5 @@ returns-in-Ok-clause-ok c =
 
 pub returns-in-Err-DecodeError-clause-bad : goal.returns-in-Err-DecodeError-clause-bad
 returns-in-Err-DecodeError-clause-bad c e =
-    standard_refuses c.args.text.now c.in-Err-DecodeError.field-0-0 (c.in-Err-DecodeError.ensures.strict (refl, refl)) (rw c.in-Err-DecodeError.field-0-is at c.in-Err-DecodeError.ensures.err)
+    standard_refuses c.args.text.now c.in-Err-DecodeError.field-0-0
+    (c.in-Err-DecodeError.ensures.strict (refl, refl)) (rw c.in-Err-DecodeError.field-0-is at c.in-Err-DecodeError.ensures.err)

@@ -34,7 +34,8 @@ unborn births txid k j (o ∷ os) h = rw (other_vout txid j k (omega arith)) (un
 -- the next output's place is new
 pub next_is_new : (births : ℕ) (txid : List ℕ) (old now : List Entry) (os : List TxOut) (i : ℕ) → IsNewTxid old txid → now ≡ old
     ++ born births txid 0 (take i os) → i < length os → at_place now (record { txid = txid; vout = i }) ≡ None
-next_is_new births txid old now os i fresh is lt = rw is (none_in_both _ old (born births txid 0 (take i os)) (fresh i) (unborn births txid 0 i (take i os) (let short = length-take i os in omega arith)))
+next_is_new births txid old now os i fresh is lt =
+    rw is (none_in_both _ old (born births txid 0 (take i os)) (fresh i) (unborn births txid 0 i (take i os) (let short = length-take i os in omega arith)))
 
 born_push : (births : ℕ) (txid : List ℕ) (k : ℕ) (os : List TxOut) (o : TxOut) → born births txid k (os ++ o ∷ []) ≡ born births txid k os
     ++ (record { txid = txid; vout = k + length os }, (births + (k + length os), o)) ∷ []
@@ -72,7 +73,8 @@ module _ {X : Type 0} where
       → lookup (same_outpoint (record { txid = txid; vout = k })) es ≡ None
   none_new [] txid h k = refl
   none_new (e ∷ es) txid h k =
-      elim (bytes_eq txid e.0.txid) as (λ b. b || list_any (is_of txid) (keys_of es) ≡ false → cond (b && k == e.0.vout) (Some e.1) (lookup (same_outpoint (record { txid = txid; vout = k })) es) ≡ None) [
+      elim (bytes_eq txid e.0.txid) as (λ b. b || list_any (is_of txid) (keys_of es) ≡ false
+      → cond (b && k == e.0.vout) (Some e.1) (lookup (same_outpoint (record { txid = txid; vout = k })) es) ≡ None) [
         | true ↦ λ s. cc
         | false ↦ λ s. none_new es txid s k
       ] h
@@ -81,8 +83,13 @@ module _ {X : Type 0} where
       → list_any (is_of txid) (keys_of es) ≡ false
   new_none [] txid h = refl
   new_none (e ∷ es) txid h =
-      elim (bytes_eq txid e.0.txid) as (λ b. ((k : ℕ) → cond (b && k == e.0.vout) (Some e.1) (lookup (same_outpoint (record { txid = txid; vout = k })) es) ≡ None) → b || list_any (is_of txid) (keys_of es) ≡ false) [
-        | true ↦ λ s. let here = s e.0.vout in let same = same_numbers e.0.vout in (let none : cond true (Some e.1) (lookup (same_outpoint (record { txid = txid; vout = e.0.vout })) es) ≡ None = rw same at here in cc)
+      elim (bytes_eq txid e.0.txid) as
+      (λ b. ((k : ℕ) → cond (b && k == e.0.vout) (Some e.1) (lookup (same_outpoint (record { txid = txid; vout = k })) es) ≡ None)
+      → b || list_any (is_of txid) (keys_of es) ≡ false) [
+        | true ↦ λ s.
+            let here = s e.0.vout in
+            let same = same_numbers e.0.vout in
+            (let none : cond true (Some e.1) (lookup (same_outpoint (record { txid = txid; vout = e.0.vout })) es) ≡ None = rw same at here in cc)
         | false ↦ λ s. new_none es txid s
       ] h
 

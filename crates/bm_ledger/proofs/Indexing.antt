@@ -50,7 +50,8 @@ pub numbered-at_place : (low high : ℕ) (es : List Entry) (p : OutPoint) (n : �
     → numbered es n ≡ option_map (λ q. (p, q)) (at_place es p)
 numbered-at_place low high [] p n h at = cc
 numbered-at_place low high (e ∷ es) p n h at =
-    elim (same_outpoint p e.0) as (λ b. same_outpoint p e.0 ≡ b → option_map (λ q. q.0) (cond b (Some e.1) (at_place es p)) ≡ Some n → cond (e.1.0 == n) (Some e) (numbered es n) ≡ option_map (λ q. (p, q)) (cond b (Some e.1) (at_place es p))) [
+    elim (same_outpoint p e.0) as (λ b. same_outpoint p e.0 ≡ b → option_map (λ q. q.0) (cond b (Some e.1) (at_place es p)) ≡ Some n
+    → cond (e.1.0 == n) (Some e) (numbered es n) ≡ option_map (λ q. (p, q)) (cond b (Some e.1) (at_place es p))) [
       | true ↦ λ t s.
           let is : e.1.0 ≡ n = cc in
           let here : e.1.0 == n ≡ true = rw is (same_numbers n) in
@@ -108,7 +109,8 @@ remove-absent (e ∷ es) p h =
 still_absent : (es : List Entry) (p q : OutPoint) → at_place es q ≡ None → at_place (remove_entry (same_outpoint p) es) q ≡ None
 still_absent [] p q h = refl
 still_absent (e ∷ es) p q h =
-    elim (same_outpoint q e.0) as (λ c. same_outpoint q e.0 ≡ c → cond c (Some e.1) (at_place es q) ≡ None → at_place (cond (same_outpoint p e.0) es (e ∷ remove_entry (same_outpoint p) es)) q ≡ None) [
+    elim (same_outpoint q e.0) as (λ c. same_outpoint q e.0 ≡ c
+    → cond c (Some e.1) (at_place es q) ≡ None → at_place (cond (same_outpoint p e.0) es (e ∷ remove_entry (same_outpoint p) es)) q ≡ None) [
       | true ↦ λ t s. cc
       | false ↦ λ t s. elim (same_outpoint p e.0) as (λ b. at_place (cond b es (e ∷ remove_entry (same_outpoint p) es)) q ≡ None) [
         | true ↦ s
@@ -173,7 +175,8 @@ at_place-push [] e q h = ap (λ b. cond {A = Option (ℕ × TxOut)} b (Some e.1)
 at_place-push (x ∷ xs) e q h =
     let n = not_first e.0 x xs h in
     ap (cond (same_outpoint q x.0) (Some x.1)) (at_place-push xs e q n.1)
-    ∙ elim (same_outpoint e.0 q) as (λ b. same_outpoint e.0 q ≡ b → cond (same_outpoint q x.0) (Some x.1) (cond b (Some e.1) (at_place xs q)) ≡ cond b (Some e.1) (cond (same_outpoint q x.0) (Some x.1) (at_place xs q))) [
+    ∙ elim (same_outpoint e.0 q) as (λ b. same_outpoint e.0 q ≡ b → cond (same_outpoint q x.0) (Some x.1) (cond b (Some e.1) (at_place xs q))
+    ≡ cond b (Some e.1) (cond (same_outpoint q x.0) (Some x.1) (at_place xs q))) [
       | true ↦ λ t.
           let apart : same_outpoint q x.0 ≡ false = ap (λ p. same_outpoint p x.0) (sym (same_outpoint-is e.0 q t)) ∙ n.0 in
           ap (λ b. cond {A = Option (ℕ × TxOut)} b (Some x.1) (Some e.1)) apart
@@ -249,7 +252,8 @@ contained f es p is = ap is_some (is.numbers p) ∙ is_numbered (at_place es p)
 pub taken : (f : OutPoint → Option ℕ) (es : List Entry) (p : OutPoint) (n i : ℕ) → AreIndexed f es → f p ≡ Some n → numbered es n
     ≡ option_and_then (if_numbered n) (slice_get es i) → (i < length es) × (remove es i ≡ remove_entry (same_outpoint p) es)
 taken f es p n i is at stands =
-    elim (at_place es p) as (λ o. option_map (λ (q : ℕ × TxOut). q.0) o ≡ Some n → numbered es n ≡ option_map (λ q. (p, q)) o → (i < length es) × (remove es i ≡ remove_entry (same_outpoint p) es)) [
+    elim (at_place es p) as (λ o. option_map (λ (q : ℕ × TxOut). q.0) o ≡ Some n
+    → numbered es n ≡ option_map (λ q. (p, q)) o → (i < length es) × (remove es i ≡ remove_entry (same_outpoint p) es)) [
       | None ↦ λ s t. cc
       | Some q ↦ λ s t.
           let here : slice_get es i ≡ Some (p, q) = found_here n (slice_get es i) (p, q) (sym stands ∙ t) in

@@ -124,7 +124,8 @@ numbered-at low high number (e ∷ es) zero h le point =
     let above = below-not e.1.0 number (point.1 0 e (omega arith) (omega arith)) in
     elim (e.1.0 == number) as (λ b. e.1.0 == number ≡ b → cond b (Some e) (numbered es number) ≡ (if b then Some e else None)) [
       | true ↦ λ t. refl
-      | false ↦ λ t. all_above (e.1.0 + 1) high number es (let apart : e.1.0 ≢ number = λ s. (let same : e.1.0 == number ≡ true = grind (arith, nat_tests) in cc) in omega arith) h.2
+      | false ↦ λ t. all_above (e.1.0 + 1) high number es
+          (let apart : e.1.0 ≢ number = λ s. (let same : e.1.0 == number ≡ true = grind (arith, nat_tests) in cc) in omega arith) h.2
     ] refl
 numbered-at low high number (e ∷ es) (suc i) h le point =
     let before = below-is e.1.0 number (point.0 0 e (omega arith) (omega arith)) in

@@ -42,10 +42,12 @@ pub input_refusal-hashes : (hash : List ℕ → List ℕ) (book : List Pair) (li
     → input_refusal hash book live tx k input
     ≡ option_and_then (λ p. spending_refusal hash book k input (input_hashes hash live tx input) p.1) (at_place live input.prev)
 input_refusal-hashes hash book live tx k input =
-    elim (at_place live input.prev) as (λ o. option_and_then (λ p. first_reason (input_row hash book tx k input p.1)) o ≡ option_and_then (λ p. spending_refusal hash book k input (if is_filled input.witness then option_map (λ q. hashes_with hash tx input q.1) o else None) p.1) o) [
+    elim (at_place live input.prev) as (λ o. option_and_then (λ p. first_reason (input_row hash book tx k input p.1)) o ≡ option_and_then
+    (λ p. spending_refusal hash book k input (if is_filled input.witness then option_map (λ q. hashes_with hash tx input q.1) o else None) p.1) o) [
       | None ↦ refl
       | Some p ↦
-          elim (is_filled input.witness) as (λ b. is_filled input.witness ≡ b → first_reason (input_row hash book tx k input p.1) ≡ spending_refusal hash book k input (if b then Some (hashes_with hash tx input p.1) else None) p.1) [
+          elim (is_filled input.witness) as (λ b. is_filled input.witness ≡ b → first_reason (input_row hash book tx k input p.1)
+          ≡ spending_refusal hash book k input (if b then Some (hashes_with hash tx input p.1) else None) p.1) [
             | true ↦ λ h. ap first_reason (row_filled hash book tx k input p.1 h)
             | false ↦ λ h. row_unfilled hash book tx k input p.1 h
           ] refl

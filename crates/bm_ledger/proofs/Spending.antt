@@ -32,7 +32,8 @@ same_outpoint-is a b h =
 pub at_place-remove_entry : (es : List Entry) (p q : OutPoint) → same_outpoint q p ≡ false → at_place (remove_entry (same_outpoint p) es) q ≡ at_place es q
 at_place-remove_entry [] p q h = refl
 at_place-remove_entry (e ∷ es) p q h =
-    elim (same_outpoint p e.0) as (λ b. same_outpoint p e.0 ≡ b → at_place (cond b es (e ∷ remove_entry (same_outpoint p) es)) q ≡ cond (same_outpoint q e.0) (Some e.1) (at_place es q)) [
+    elim (same_outpoint p e.0) as (λ b. same_outpoint p e.0 ≡ b
+    → at_place (cond b es (e ∷ remove_entry (same_outpoint p) es)) q ≡ cond (same_outpoint q e.0) (Some e.1) (at_place es q)) [
       | true ↦ λ t. let other : same_outpoint q e.0 ≡ false = ap (same_outpoint q) (sym (same_outpoint-is p e.0 t)) ∙ h in rw other refl
       | false ↦ λ t. ap (cond (same_outpoint q e.0) (Some e.1)) (at_place-remove_entry es p q h)
     ] refl
@@ -42,7 +43,8 @@ pub remove_entry-append : (es bs : List Entry) (p : OutPoint) → is_some (at_pl
     ≡ remove_entry (same_outpoint p) es ++ bs
 remove_entry-append [] bs p h = cc
 remove_entry-append (e ∷ es) bs p h =
-    elim (same_outpoint p e.0) as (λ b. is_some (cond b (Some e.1) (at_place es p)) ≡ true → cond b (es ++ bs) (e ∷ remove_entry (same_outpoint p) (es ++ bs)) ≡ cond b es (e ∷ remove_entry (same_outpoint p) es) ++ bs) [
+    elim (same_outpoint p e.0) as (λ b. is_some (cond b (Some e.1) (at_place es p)) ≡ true
+    → cond b (es ++ bs) (e ∷ remove_entry (same_outpoint p) (es ++ bs)) ≡ cond b es (e ∷ remove_entry (same_outpoint p) es) ++ bs) [
       | true ↦ λ s. refl
       | false ↦ λ s. ap (λ l. e ∷ l) (remove_entry-append es bs p s)
     ] h
@@ -54,7 +56,8 @@ AllLive es (i ∷ is) = (is_some (at_place es i.prev) ≡ true) × AllLive es is
 pub all_live : (es : List Entry) (k : ℕ) (is : List TxIn) → position_from (λ i. not (is_some (at_place es i.prev))) k is ≡ None → AllLive es is
 all_live es k [] h = tt
 all_live es k (i ∷ is) h =
-    elim (is_some (at_place es i.prev)) as (λ b. is_some (at_place es i.prev) ≡ b → cond (not b) (Some k) (position_from (λ i. not (is_some (at_place es i.prev))) (k + 1) is) ≡ None → AllLive es (i ∷ is)) [
+    elim (is_some (at_place es i.prev)) as (λ b. is_some (at_place es i.prev) ≡ b
+    → cond (not b) (Some k) (position_from (λ i. not (is_some (at_place es i.prev))) (k + 1) is) ≡ None → AllLive es (i ∷ is)) [
       | true ↦ λ t s. (t, all_live es (k + 1) is s)
       | false ↦ λ t s. cc
     ] refl h

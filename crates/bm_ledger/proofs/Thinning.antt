@@ -30,7 +30,8 @@ stay t (e ∷ es) h =
 goes : (t : OutPoint → Bool) (p : OutPoint) (es : List Entry) → t p ≡ false → filter (λ e. t e.0) es ≡ filter (λ e. t e.0) (remove_entry (same_outpoint p) es)
 goes t p [] h = refl
 goes t p (e ∷ es) h =
-    elim (same_outpoint p e.0) as (λ b. same_outpoint p e.0 ≡ b → filter (λ e. t e.0) (e ∷ es) ≡ filter (λ e. t e.0) (cond b es (e ∷ remove_entry (same_outpoint p) es))) [
+    elim (same_outpoint p e.0) as
+    (λ b. same_outpoint p e.0 ≡ b → filter (λ e. t e.0) (e ∷ es) ≡ filter (λ e. t e.0) (cond b es (e ∷ remove_entry (same_outpoint p) es))) [
       | true ↦ λ s. let none : t e.0 ≡ false = ap t (sym (same_outpoint-is p e.0 s)) ∙ h in rw none refl
       | false ↦ λ s. rw (goes t p es h) refl
     ] refl
@@ -51,7 +52,8 @@ thinned f g (p ∷ places) es was lost =
     let f' : OutPoint → Option ℕ = λ q. cond (same_outpoint p q) None (f q) in
     let next = removed f f' es p was (λ q. refl) in
     let none : g p ≡ None = lost p ∙ ap (λ b. if b || list_any (λ r. same_outpoint r p) places then None else f p) (same-itself p) in
-    let rest = thinned f' g places (remove_entry (same_outpoint p) es) next (λ q. lost q ∙ first_or_rest (same_outpoint p q) (list_any (λ r. same_outpoint r q) places) (f q)) in
+    let rest = thinned f' g places (remove_entry (same_outpoint p) es) next
+    (λ q. lost q ∙ first_or_rest (same_outpoint p q) (list_any (λ r. same_outpoint r q) places) (f q)) in
     (goes (λ q. is_some (g q)) p es (ap is_some none) ∙ rest.0, rest.1)
 
 -- ---- one place more

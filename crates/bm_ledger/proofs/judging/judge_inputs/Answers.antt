@@ -15,8 +15,10 @@ loop-k-preserved g c =
     let input = c.index-inputs-k.result in
     let hashes = rw c.loop-k.invariant.hasher at c.in_ok-hashes.ensures.hashes in
     let same = c.hasher.ensures ∙ c.in_ok-hashes.ensures.trail.0 ∙ c.loop-k.invariant.hasher in
-    let next = next_refusal hash (g.H.Hash32.digest_of c.hasher.result.now) c.args.book.now c.args.live.now c.args.tx.now k input c.in_ok-hashes.hashes c.loop-k.first c.in_ok-first.first (ap g.H.Hash32.digest_of same) hashes c.in_ok-first.ensures in
-    let cut : drop k inputs ≡ input ∷ drop (k + 1) inputs = drop_more inputs k input c.loop-k-test.true ∙ ap (λ z. z ∷ drop (k + 1) inputs) (sym c.index-inputs-k.is) in
+    let next = next_refusal hash (g.H.Hash32.digest_of c.hasher.result.now) c.args.book.now c.args.live.now c.args.tx.now
+    k input c.in_ok-hashes.hashes c.loop-k.first c.in_ok-first.first (ap g.H.Hash32.digest_of same) hashes c.in_ok-first.ensures in
+    let cut : drop k inputs ≡ input ∷ drop (k + 1) inputs =
+    drop_more inputs k input c.loop-k-test.true ∙ ap (λ z. z ∷ drop (k + 1) inputs) (sym c.index-inputs-k.is) in
     record {
       hasher = c.in_ok-hashes.ensures.trail.0 ∙ c.loop-k.invariant.hasher;
       first = inputs_refusal-step hash c.args.book.now c.args.live.now c.args.tx.now k input (drop (k + 1) inputs) (drop k inputs)

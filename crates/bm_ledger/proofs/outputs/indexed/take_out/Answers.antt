@@ -9,12 +9,14 @@ on_some (Some x) P h k = k
 
 pub returns-in-Some-clause-removed : goal.returns-in-Some-clause-removed
 returns-in-Some-clause-removed c =
-    let t = taken _ c.args.entries.now.items c.args.place.now c.in-Some.number c.place_of_number-index.result c.requires.indexed (sym c.in-Some.ensures.value) c.place_of_number-index.ensures in
+    let t = taken _ c.args.entries.now.items c.args.place.now c.in-Some.number c.place_of_number-index.result c.requires.indexed
+    (sym c.in-Some.ensures.value) c.place_of_number-index.ensures in
     let within = subst (λ (n : ℕ). c.place_of_number-index.result < n) (sym c.args.entries.now.ok.0) t.0 in
     on_some c.remove.result _ (c.remove.ensures.variant.1 within) c.remove.ensures.items ∙ t.1
 
 pub returns-in-Some-clause-indexed : goal.returns-in-Some-clause-indexed
-returns-in-Some-clause-indexed c = rw (returns-in-Some-clause-removed c) (removed _ _ c.args.entries.now.items c.args.place.now c.requires.indexed c.in-Some.ensures.updates.0)
+returns-in-Some-clause-indexed c =
+    rw (returns-in-Some-clause-removed c) (removed _ _ c.args.entries.now.items c.args.place.now c.requires.indexed c.in-Some.ensures.updates.0)
 
 pub returns-clause-removed : goal.returns-clause-removed
 returns-clause-removed c = untaken _ c.args.entries.now.items c.args.place.now c.requires.indexed (sym c.swap_remove.ensures.value ∙ c.in_default.is)

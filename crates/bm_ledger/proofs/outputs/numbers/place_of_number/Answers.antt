@@ -8,6 +8,7 @@ returns-in-Some c = numbered-found 0 4294967296 c.args.number c.args.entries.now
 
 pub returns : goal.returns
 returns c =
-    let point = c.partition_point.ensures.partitioned (is_below c.args.number) (always_returns_same _ _ _ (λ a r f k. search (rules, of_calls))) (partitioned 0 4294967296 c.args.number c.args.entries.now.items c.requires.order) in
+    let point = c.partition_point.ensures.partitioned (is_below c.args.number) (always_returns_same _ _ _ (λ a r f k. search (rules, of_calls)))
+    (partitioned 0 4294967296 c.args.number c.args.entries.now.items c.requires.order) in
     let bound = subst (λ (n : ℕ). c.partition_point.result ≤ n) c.args.entries.now.ok.0 c.partition_point.ensures.bound in
     numbered-at 0 4294967296 c.args.number c.args.entries.now.items c.partition_point.result c.requires.order bound point

@@ -104,7 +104,8 @@ module _ (hash : List ℕ → List ℕ) (keys : Keys) (s : Instance) (text : Lis
       let i = in_map (λ (p : List ℕ × List ℕ). as_shown p) course.state.shown (name, bytes) (looked_in course.state.shown name bytes e) in
       let one = all_in (λ (y : Shown). is_secret hash y.bytes (digest_of s.hashes y.name)) (known course.state []) x fit
       (in_left x (map (λ (p : List ℕ × List ℕ). as_shown p) course.state.shown) [] i) in
-      let size = and_parts (nat_le least_secret_bytes (length bytes) && nat_le (length bytes) most_item_bytes) (bytes_eq (hash bytes) (digest_of s.hashes name)) one in
+      let size = and_parts (nat_le least_secret_bytes (length bytes) && nat_le (length bytes) most_item_bytes)
+      (bytes_eq (hash bytes) (digest_of s.hashes name)) one in
       let most = and_parts (nat_le least_secret_bytes (length bytes)) (nat_le (length bytes) most_item_bytes) size.0 in
       within (length bytes) most.1
     where
@@ -216,7 +217,11 @@ module _ (hash : List ℕ → List ℕ) (keys : Keys) (s : Instance) (text : Lis
             lies path o (subst (λ (k : Held). IsHeld hash keys s k o.place o.value) held c.fine)
 
     is_run : IsRun hash keys s course tip
-    is_run = record { legal = run_with; possible = (shown_lengths course.state, are_lengths); placed = λ o path h held. placed o path (in_from_contains course.state.live o h) held }
+    is_run = record {
+      legal = run_with;
+      possible = (shown_lengths course.state, are_lengths);
+      placed = λ o path h held. placed o path (in_from_contains course.state.live o h) held;
+    }
 
 pub chains_are_runs : ChainsAreRuns
 chains_are_runs v hash advert deal text course tip d followed =

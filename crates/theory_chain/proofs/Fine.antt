@@ -176,11 +176,13 @@ module _ (hash : List ℕ → List ℕ) (keys : Keys) (s : Instance) (l : Listed
   fine_shown k [] signers ws h = refl
   fine_shown k (x ∷ xs) signers [] h = absurd h
   fine_shown k (x ∷ xs) [] (w ∷ ws) h =
-      ap (λ (b : Bool). cond b (witnesses_reason hash (k + 1) (inputs hash keys s.advert l (k + 1) xs []) (witnessed (map input_of xs) ws)) (Some (reasons.Witness k)))
+      ap (λ (b : Bool). cond b (witnesses_reason hash (k + 1) (inputs hash keys s.advert l (k + 1) xs []) (witnessed (map input_of xs) ws))
+      (Some (reasons.Witness k)))
       (fine_opens k x [] w (wallet k) h.0)
       ∙ fine_shown (k + 1) xs [] ws h.1
   fine_shown k (x ∷ xs) (labels ∷ signers) (w ∷ ws) h =
-      ap (λ (b : Bool). cond b (witnesses_reason hash (k + 1) (inputs hash keys s.advert l (k + 1) xs signers) (witnessed (map input_of xs) ws)) (Some (reasons.Witness k)))
+      ap (λ (b : Bool). cond b (witnesses_reason hash (k + 1) (inputs hash keys s.advert l (k + 1) xs signers) (witnessed (map input_of xs) ws))
+      (Some (reasons.Witness k)))
       (fine_opens k x labels w (wallet k) h.0)
       ∙ fine_shown (k + 1) xs signers ws h.1
 

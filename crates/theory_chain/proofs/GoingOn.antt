@@ -315,7 +315,8 @@ module _ (hash : List ℕ → List ℕ) (keys : Keys) (s : Instance) (whole : Wh
 
 -- ---- one that can come isn't bad
 
-module _ (as_planned : FinishedIsPlanned) (hash : List ℕ → List ℕ) (keys : Keys) (s : Instance) (whole : Whole hash keys s) (course : Course) (kept : Kept hash keys s course)
+module _ (as_planned : FinishedIsPlanned)
+    (hash : List ℕ → List ℕ) (keys : Keys) (s : Instance) (whole : Whole hash keys s) (course : Course) (kept : Kept hash keys s course)
     (lie : (o : Output) (path : List PathStep) → Is_in o course.state.live → o.held ≡ helds.Position path → outpoint_at hash keys s path ≡ Some o.place)
     (given : List Signed) (strings : List Shown) (tip : ℕ) (which : Which) (l : Listed) (named : listed_at hash keys s which ≡ Some l)
     (asked_for : Is_in which (asked s course.state)) (can : CanCome hash keys s given strings course.state tip which l)
@@ -374,7 +375,8 @@ module _ (as_planned : FinishedIsPlanned) (hash : List ℕ → List ℕ) (keys :
           let all = ap (witnesses hash keys s given strings l) name in
           let some : l.pending.spends ≡ [] → ⊥ = λ z.
           none_some (sym z ∙ ap (λ (x : Listed). x.pending.spends) n.2 ∙ ap (λ (d : Unsigned). d.spends) o.is) in
-          let chosen = ap (λ (ws : List (List (List ℕ))). chosen_by (choices_at s o.here.position) (first_witness (witnessed (map input_of l.pending.spends) ws))) all
+          let chosen =
+          ap (λ (ws : List (List (List ℕ))). chosen_by (choices_at s o.here.position) (first_witness (witnessed (map input_of l.pending.spends) ws))) all
           ∙ first_chosen hash keys s whole given strings l path n.0 o l.pending.spends l.signers
           (subst (AllShown hash keys s l 0 l.pending.spends) all opened) some in
           ap (λ (q : List PathStep). names.At (branch_path q (chosen_by (choices_at s q) (first_witness tx.inputs))))
@@ -465,7 +467,8 @@ leads_then hash s ts (c ∷ cs) ds course middle last h k =
 -- ---- the whole
 
 pub what_can_goes_on : CanExactly → CanOpens → FinishedIsPlanned → WhatCanGoesOn
-what_can_goes_on exactly opened as_planned v hash advert deal text longer file course tip given strings which l d followed below read fits named asked_for none filled adds clear =
+what_can_goes_on exactly opened as_planned
+    v hash advert deal text longer file course tip given strings which l d followed below read fits named asked_for none filled adds clear =
     let keys = deal_keys deal in
     let s : Instance = deal_instance advert deal in
     let told = known course.state strings in

@@ -135,9 +135,12 @@ module _ (hash : List ℕ → List ℕ) (keys : Keys) (s : Instance) (course : C
       no f = cc
 
       apart : (h : Held) (o : Output) → o.held ≡ h → is_deposit x o ≡ true → is_position o ≡ true → ⊥
-      apart (helds.Deposit name) o k a b = no (subst (λ (h : Held). is_position (record { number = o.number; held = h; place = o.place; value = o.value }) ≡ true) k b)
-      apart (helds.Position path) o k a b = no (subst (λ (h : Held). is_deposit x (record { number = o.number; held = h; place = o.place; value = o.value }) ≡ true) k a)
-      apart (helds.Payout party) o k a b = no (subst (λ (h : Held). is_deposit x (record { number = o.number; held = h; place = o.place; value = o.value }) ≡ true) k a)
+      apart (helds.Deposit name) o k a b =
+          no (subst (λ (h : Held). is_position (record { number = o.number; held = h; place = o.place; value = o.value }) ≡ true) k b)
+      apart (helds.Position path) o k a b =
+          no (subst (λ (h : Held). is_deposit x (record { number = o.number; held = h; place = o.place; value = o.value }) ≡ true) k a)
+      apart (helds.Payout party) o k a b =
+          no (subst (λ (h : Held). is_deposit x (record { number = o.number; held = h; place = o.place; value = o.value }) ≡ true) k a)
 
       by_kind : (o : Output) → Is_in o course.state.live → is_deposit x o ≡ true
           → Is_in o (deposit_outputs s) ⊎ (Is_in o course.state.made × (is_position o ≡ true))

@@ -113,7 +113,9 @@ module _ (hash : List ℕ → List ℕ) (keys : Keys) (s : Instance) (whole : Wh
         same = same;
         own = e ∙ ap Some m.2;
         low = below a.0;
-        shown = shown_fine hash keys s m.0 0 m.0.pending.spends m.0.signers tx.inputs (as_many m.0.pending.spends tx.inputs (same_prevs hash keys s tx m.0.pending same)) b.0;
+        shown =
+            shown_fine hash keys s m.0 0 m.0.pending.spends m.0.signers tx.inputs
+            (as_many m.0.pending.spends tx.inputs (same_prevs hash keys s tx m.0.pending same)) b.0;
       }
     where
       below : lock_reason height tx ≡ None → tx.lock < height
@@ -187,7 +189,8 @@ module _ (hash : List ℕ → List ℕ) (keys : Keys) (s : Instance) (whole : Wh
           one.other.pending.spends (own_witnesses tx) one.shown in
           let fine = fine_with hash (λ k. takes_all) Filled (λ k w. consensus y (spent_outputs ledger.live y) k ≡ true) (wallets_of keys s l)
           (λ k v w e. taken k v e) 0 one.other.pending.spends (own_witnesses tx) here in
-          accepts_fine hash (input_checks keys s l (λ k. takes_all) consensus) (wallets_of keys s l) ledger one.other.pending (own_witnesses tx) plan lie reached
+          accepts_fine hash (input_checks keys s l (λ k. takes_all) consensus)
+          (wallets_of keys s l) ledger one.other.pending (own_witnesses tx) plan lie reached
           (fine_judged hash whole.size.size (λ k. takes_all) consensus (wallets_of keys s l) ledger.live y 0 one.other.pending.spends (own_witnesses tx)
           (all_lie hash ledger.live (wallets_of keys s l) one.other.pending.spends lie) fine)
 
@@ -210,7 +213,10 @@ module _ (hash : List ℕ → List ℕ) (keys : Keys) (s : Instance) (whole : Wh
           judged l ledger one twin.0
           (λ k. sym (ap (λ (w : Which). input_wallet keys s.advert w k) (listed_name hash keys s which l named) ∙ twin.2 k))
           (all_live hash keys s state l ledger.live has two.live)
-          (record { funded = funded_at hash keys s whole.checked one.other.which one.other other_named; apart = apart_at hash keys s whole.checked whole.apart one.other.which one.other other_named })
+          (record {
+            funded = funded_at hash keys s whole.checked one.other.which one.other other_named;
+            apart = apart_at hash keys s whole.checked whole.apart one.other.which one.other other_named;
+          })
           (omega (arith, top, low, lock))
 
 -- ---- the whole

@@ -616,21 +616,26 @@ module _ (hash : List ℕ → List ℕ) (s : Instance) (ts : List Transaction) (
   -- ---- none and the first
 
   own_is : (o : Option Transaction) → own_transaction ts tx ≡ o
-      → refusal hash s ts state height tx ≡ or_else (inputs_reason s ts (is_some (own_transaction ts tx)) state.live 0 tx.inputs) (own_reason hash s ts height tx o)
-  own_is o e = ap (λ (x : Option Transaction). or_else (inputs_reason s ts (is_some (own_transaction ts tx)) state.live 0 tx.inputs) (own_reason hash s ts height tx x)) e
+      → refusal hash s ts state height tx
+      ≡ or_else (inputs_reason s ts (is_some (own_transaction ts tx)) state.live 0 tx.inputs) (own_reason hash s ts height tx o)
+  own_is o e =
+      ap (λ (x : Option Transaction). or_else
+      (inputs_reason s ts (is_some (own_transaction ts tx)) state.live 0 tx.inputs) (own_reason hash s ts height tx x)) e
 
   none_holds : refusal hash s ts state height tx ≡ None → (r : ChainReason) → Holds r → ⊥
   none_holds e r h = by_own (own_transaction ts tx) refl
     where
       by_own : (o : Option Transaction) → own_transaction ts tx ≡ o → ⊥
       by_own None f =
-          let p = both_none (inputs_reason s ts (is_some (own_transaction ts tx)) state.live 0 tx.inputs) (own_reason hash s ts height tx None) (sym (own_is None f) ∙ e) in
+          let p = both_none (inputs_reason s ts (is_some (own_transaction ts tx)) state.live 0 tx.inputs)
+          (own_reason hash s ts height tx None) (sym (own_is None f) ∙ e) in
           by_reason r h
         where
           spent : (q : ChainReason) → Spent q → ⊥
           spent q k =
               inputs_none s ts (is_some (own_transaction ts tx)) state.live 0 tx.inputs
-              (both_none (inputs_reason s ts (is_some (own_transaction ts tx)) state.live 0 tx.inputs) (own_reason hash s ts height tx (own_transaction ts tx)) e).0 q k
+              (both_none (inputs_reason s ts (is_some (own_transaction ts tx)) state.live 0 tx.inputs)
+              (own_reason hash s ts height tx (own_transaction ts tx)) e).0 q k
 
           by_reason : (q : ChainReason) → Holds q → ⊥
           by_reason reasons.Form k = k
@@ -645,10 +650,14 @@ module _ (hash : List ℕ → List ℕ) (s : Instance) (ts : List Transaction) (
         where
           first : (inputs_reason s ts (is_some (own_transaction ts tx)) state.live 0 tx.inputs ≡ None) × (own_reason hash s ts height tx (Some t) ≡ None)
           first =
-              both_none (inputs_reason s ts (is_some (own_transaction ts tx)) state.live 0 tx.inputs) (own_reason hash s ts height tx (Some t)) (sym (own_is (Some t) f) ∙ e)
+              both_none (inputs_reason s ts (is_some (own_transaction ts tx)) state.live 0 tx.inputs)
+              (own_reason hash s ts height tx (Some t)) (sym (own_is (Some t) f) ∙ e)
 
-          second : (lock_reason height tx ≡ None) × (or_else (witnesses_reason hash 0 t.inputs tx.inputs) (branch_reason ts tx (which_shown s tx t.which)) ≡ None)
-          second = both_none (lock_reason height tx) (or_else (witnesses_reason hash 0 t.inputs tx.inputs) (branch_reason ts tx (which_shown s tx t.which))) first.1
+          second : (lock_reason height tx ≡ None)
+              × (or_else (witnesses_reason hash 0 t.inputs tx.inputs) (branch_reason ts tx (which_shown s tx t.which)) ≡ None)
+          second =
+              both_none (lock_reason height tx)
+              (or_else (witnesses_reason hash 0 t.inputs tx.inputs) (branch_reason ts tx (which_shown s tx t.which))) first.1
 
           third : (witnesses_reason hash 0 t.inputs tx.inputs ≡ None) × (branch_reason ts tx (which_shown s tx t.which) ≡ None)
           third = both_none (witnesses_reason hash 0 t.inputs tx.inputs) (branch_reason ts tx (which_shown s tx t.which)) second.1

@@ -456,7 +456,8 @@ module _ (hash : List ℕ → List ℕ) (keys : Keys) (s : Instance) (whole : Wh
   path_unfunded : (path : List PathStep) (d : Unsigned) (of : OfBranch hash keys s path d) (x : List ℕ) → Is_in x (puts_by (at s.advert.root path))
       → list_any (is_deposit x) course.state.live ≡ false → Gone d
   path_unfunded path d of x h e =
-      let put : Is_in x (puts_of (core of.b)) = subst (λ (o : Option term.Guarded). Is_in x (puts_by o)) (branch_at_path hash keys s path of.here of.i of.b of.ends) h in
+      let put : Is_in x (puts_of (core of.b)) =
+      subst (λ (o : Option term.Guarded). Is_in x (puts_by o)) (branch_at_path hash keys s path of.here of.i of.b of.ends) h in
       let all = puts_needed hash keys s whole.checked path of.here of.i of.b of.ends in
       let name : List ℕ → Spent = λ n. deposit hash keys s n (holding_or_none (look_up n (volatile s.advert.pre))) in
       record {
@@ -559,13 +560,17 @@ none_stands (r ∷ rs) numbers births verdict refused ok =
     filled e = cc
 
 pub accepted_exactly : CanIsAccepted → CannotIsRefused → AcceptedExactly
-accepted_exactly accepted refused v hash advert deal text file course tip given strings which l oracle chain d followed read fits named asked_for finishes accepting live top =
+accepted_exactly accepted refused v hash
+    advert deal text file course tip given strings which l oracle chain d followed read fits named asked_for finishes accepting live top =
     let keys = deal_keys deal in
     let s : Instance = deal_instance advert deal in
     let lines = outstanding hash keys s given (known course.state strings) course.state tip which in
     let tx = finished hash keys s given (known course.state strings) l in
-    let can : lines ≡ [] → IsAcceptedBy hash keys s l oracle chain tx = λ none. accepted v hash advert deal text file course tip given strings which l oracle chain d followed read fits named asked_for none accepting live top in
-    let cannot : (lines ≡ [] → ⊥) → IsRefusedBy hash chain tx = λ some. refused v hash advert deal text course tip given strings which l chain d followed named finishes some live top in
+    let can : lines ≡ [] → IsAcceptedBy hash keys s l oracle chain tx =
+    λ none. accepted v hash advert deal text
+    file course tip given strings which l oracle chain d followed read fits named asked_for none accepting live top in
+    let cannot : (lines ≡ [] → ⊥) → IsRefusedBy hash chain tx =
+    λ some. refused v hash advert deal text course tip given strings which l chain d followed named finishes some live top in
     record {
       by_oracle = λ of_keys. (
         λ none. (can none).by_oracle of_keys,

@@ -207,7 +207,8 @@ module _ (hash : List ℕ → List ℕ) (s : Instance) where
           → Is_in (name, bytes) course.state.shown ⊎ ((d : Confirmed) × Is_in d (c ∷ cs) × (string_shown hash s d.tx name ≡ Some bytes))
       by_new (inl j) = inl j
       by_new (inr j) =
-          let p = from_map (λ (q : List ℕ × List ℕ). (q.0, bytes_or_none (string_shown hash s c.tx (q.0)))) (newly_shown hash s course.state c.tx) (name, bytes) j in
+          let p = from_map (λ (q : List ℕ × List ℕ). (q.0, bytes_or_none (string_shown hash s c.tx (q.0))))
+          (newly_shown hash s course.state c.tx) (name, bytes) j in
           let n = in_filter (λ (q : List ℕ × List ℕ). is_newly_shown hash s course.state c.tx (q.0)) (secrets s.advert.pre) p.0 p.1 in
           let same : name ≡ p.0.0 = ap (λ (q : List ℕ × List ℕ). q.0) p.2 in
           let some = (and_parts (not (is_some (look_up (p.0.0) course.state.shown))) (is_some (string_shown hash s c.tx (p.0.0))) n.1).1 in
@@ -246,7 +247,8 @@ string_known name (p ∷ shown) strings = by_test (bytes_eq (p.0) name) (string_
   where
     by_test : (b : Bool)
         → string_for (map (λ (q : List ℕ × List ℕ). as_shown q) shown ++ strings) name ≡ or_else (look_up name shown) (string_for strings name)
-        → option_map (λ (x : Shown). x.bytes) (cond b (Some (as_shown p)) (find (λ (x : Shown). bytes_eq x.name name) (map (λ (q : List ℕ × List ℕ). as_shown q) shown ++ strings)))
+        → option_map (λ (x : Shown). x.bytes)
+        (cond b (Some (as_shown p)) (find (λ (x : Shown). bytes_eq x.name name) (map (λ (q : List ℕ × List ℕ). as_shown q) shown ++ strings)))
         ≡ or_else (cond b (Some (p.1)) (look_up name shown)) (string_for strings name)
     by_test true e = refl
     by_test false e = e
@@ -295,11 +297,13 @@ secrets_exactly v hash advert deal text course tip strings name bytes d followed
     to None e h = inl (sym (known_is ∙ ap (λ (x : Option (List ℕ)). or_else x (string_for strings name)) e) ∙ h)
     to (Some b) e h =
         let same : b ≡ bytes = some_same (sym (known_is ∙ ap (λ (x : Option (List ℕ)). or_else x (string_for strings name)) e) ∙ h) in
-        by_place (from_shown hash (deal_instance advert deal) (transactions hash (deal_keys deal) (deal_instance advert deal)) name bytes (read_chain text).confirmed
+        by_place (from_shown hash (deal_instance advert deal)
+        (transactions hash (deal_keys deal) (deal_instance advert deal)) name bytes (read_chain text).confirmed
         (opening_course hash (deal_keys deal) (deal_instance advert deal)) course leads
         (subst (λ (x : List ℕ). Is_in (name, x) course.state.shown) same (looked_in course.state.shown name b e)))
       where
-        by_place : Is_in {A = List ℕ × List ℕ} (name, bytes) [] ⊎ ((c : Confirmed) × Is_in c (read_chain text).confirmed × (string_shown hash (deal_instance advert deal) c.tx name ≡ Some bytes))
+        by_place : Is_in {A = List ℕ × List ℕ} (name, bytes)
+            [] ⊎ ((c : Confirmed) × Is_in c (read_chain text).confirmed × (string_shown hash (deal_instance advert deal) c.tx name ≡ Some bytes))
             → (string_for strings name ≡ Some bytes) ⊎ IsShownBy hash (deal_instance advert deal) (read_chain text).confirmed name bytes
         by_place (inl i) = absurd i
         by_place (inr r) =
@@ -383,7 +387,8 @@ module _ (s : Instance) (party name : List ℕ) where
   not_taken n i (after height body) h = h
 
   not_begun : Reveals (begin_steps s) → ⊥
-  not_begun h = by_place (in_append (steps.Reveal deal_contract party name) (auth_inits deal_contract (persistent s.advert.pre)) (steps.Init deal_contract ∷ []) h)
+  not_begun h =
+      by_place (in_append (steps.Reveal deal_contract party name) (auth_inits deal_contract (persistent s.advert.pre)) (steps.Init deal_contract ∷ []) h)
     where
       by_place : Reveals (auth_inits deal_contract (persistent s.advert.pre)) ⊎ Reveals (steps.Init deal_contract ∷ []) → ⊥
       by_place (inl i) = not_authorised (persistent s.advert.pre) i
@@ -425,9 +430,11 @@ revealed_exactly hash keys s text course c name party there = (to, from)
     shown_before secret =
         shown_along hash s name party secret (transactions hash keys s) there.before (opening_course hash keys s) course there.leads
 
-    new_of : Is_in (steps.Reveal deal_contract party name) (reveal_steps (newly_shown hash s course.state c.tx)) → Is_in (name, party) (newly_shown hash s course.state c.tx)
+    new_of : Is_in (steps.Reveal deal_contract party name) (reveal_steps (newly_shown hash s course.state c.tx))
+        → Is_in (name, party) (newly_shown hash s course.state c.tx)
     new_of h =
-        let p = from_map (λ (q : List ℕ × List ℕ). steps.Reveal deal_contract (q.1) (q.0)) (newly_shown hash s course.state c.tx) (steps.Reveal deal_contract party name) h in
+        let p = from_map (λ (q : List ℕ × List ℕ). steps.Reveal deal_contract (q.1) (q.0))
+        (newly_shown hash s course.state c.tx) (steps.Reveal deal_contract party name) h in
         let one : name ≡ p.0.0 = name_of p.2 in
         let two : party ≡ p.0.1 = party_of p.2 in
         subst (λ (q : List ℕ × List ℕ). Is_in q (newly_shown hash s course.state c.tx)) (λ i. (sym one i, sym two i)) p.1
@@ -454,7 +461,8 @@ revealed_exactly hash keys s text course c name party there = (to, from)
               (in_from_contains there.before g.by_which g.listed) (shown_of hash s g.by_which.tx name other g.shows));
         }
 
-    to : Contains (steps_of hash s (transactions hash keys s) course.state c.tx) (steps.Reveal deal_contract party name) → IsFirst hash s there.before c.tx name party
+    to : Contains (steps_of hash s (transactions hash keys s) course.state c.tx) (steps.Reveal deal_contract party name)
+        → IsFirst hash s there.before c.tx name party
     to h = by_place (in_append step reveals others (in_from_contains (reveals ++ others) step h))
       where
         by_place : Is_in (steps.Reveal deal_contract party name) (reveal_steps (newly_shown hash s course.state c.tx))
@@ -464,7 +472,9 @@ revealed_exactly hash keys s text course c name party there = (to, from)
         by_place (inr i) = absurd (not_which s party name course.state c.tx (which_of s (transactions hash keys s) c.tx) i)
 
     unshown : (f : IsFirst hash s there.before c.tx name party) → is_some (look_up name course.state.shown) ≡ false
-    unshown f = shown_before (in_from_contains (secrets s.advert.pre) (name, party) f.secret) ∙ by_test (list_any (λ (d : Confirmed). is_some (string_shown hash s d.tx name)) there.before) refl
+    unshown f =
+        shown_before (in_from_contains (secrets s.advert.pre) (name, party) f.secret)
+        ∙ by_test (list_any (λ (d : Confirmed). is_some (string_shown hash s d.tx name)) there.before) refl
       where
         by_test : (b : Bool) → list_any (λ (d : Confirmed). is_some (string_shown hash s d.tx name)) there.before ≡ b → b ≡ false
         by_test false e = refl
@@ -477,13 +487,15 @@ revealed_exactly hash keys s text course c name party there = (to, from)
               shows = shows_of hash s d.0.tx name b.0 b.1;
             }))
 
-    from : IsFirst hash s there.before c.tx name party → Contains (steps_of hash s (transactions hash keys s) course.state c.tx) (steps.Reveal deal_contract party name)
+    from : IsFirst hash s there.before c.tx name party
+        → Contains (steps_of hash s (transactions hash keys s) course.state c.tx) (steps.Reveal deal_contract party name)
     from f =
         let secret = in_from_contains (secrets s.advert.pre) (name, party) f.secret in
         let test = and_from (not (is_some (look_up name course.state.shown))) _ (ap not (unshown f)) (shown_of hash s c.tx name f.bytes f.shows) in
         let new = filter_has (λ (q : List ℕ × List ℕ). is_newly_shown hash s course.state c.tx (q.0)) (secrets s.advert.pre) (name, party) secret test in
         contains_from_in (reveals ++ others) step
-        (in_left step reveals others (in_map (λ (q : List ℕ × List ℕ). steps.Reveal deal_contract (q.1) (q.0)) (newly_shown hash s course.state c.tx) (name, party) new))
+        (in_left step reveals others
+        (in_map (λ (q : List ℕ × List ℕ). steps.Reveal deal_contract (q.1) (q.0)) (newly_shown hash s course.state c.tx) (name, party) new))
 
 -- ---- once
 

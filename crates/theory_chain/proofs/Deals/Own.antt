@@ -199,7 +199,8 @@ module _ (hash : List ℕ → List ℕ) (keys : Keys) (s : Instance) where
             (position_ours hash keys s o.here.position o.here o.choice o.stands)
         by_place (inr i) =
             let r = from_map (λ (name : List ℕ). deposit hash keys s name (holding_or_none (look_up name (volatile s.advert.pre)))) (puts_of (core o.b)) x i in
-            let needed = all_in (λ (n : List ℕ). is_among n (needed_deposits s.advert)) (puts_of (core o.b)) r.0 (puts_needed hash keys s whole.checked path o.here o.i o.b o.ends) r.1 in
+            let needed = all_in (λ (n : List ℕ). is_among n (needed_deposits s.advert))
+            (puts_of (core o.b)) r.0 (puts_needed hash keys s whole.checked path o.here o.i o.b o.ends) r.1 in
             let v = named_looked (deposits s.advert.pre) r.0 needed in
             subst (λ (y : Spent). has_place (deal_outputs s ts) y.outpoint ≡ true) (sym r.2)
             (deposit_ours hash keys s (r.0, v.0) (looked_in (deposits s.advert.pre) r.0 v.0 v.1))

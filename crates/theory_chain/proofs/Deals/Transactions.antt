@@ -192,7 +192,8 @@ module _ (hash : List ℕ → List ℕ) (keys : Keys) (s : Instance) where
   branch_output path h i k b (split parts) held o is ends e f =
       let r = part_held path 0 k parts held e in
       let z : k + 0 ≡ k = omega arith in
-      let at_part : end_at hash keys s (part_position path k) ≡ Some (at_position (part_standing hash keys s (branch_path h.position i) (branch_unsigned hash keys s h i b) k r.0.0 r.0.1) r.0.1) =
+      let at_part : end_at hash keys s (part_position path k)
+      ≡ Some (at_position (part_standing hash keys s (branch_path h.position i) (branch_unsigned hash keys s h i b) k r.0.0 r.0.1) r.0.1) =
       end_from-step hash keys s (at_position (root_standing hash keys s) s.advert.root) path (Into k)
       ∙ ap (option_and_then (next_end hash keys s (Into k))) ends
       ∙ ap (part_end hash keys s h i b k) is

@@ -97,7 +97,8 @@ module _ (hash : List ℕ → List ℕ) (keys : Keys) (s : Instance) where
   pub listed_heard : (l : Listed) (t : List ℕ) → Is_in l (listed hash keys s) → is_among t (unsigned_strings hash l.pending) ≡ true
       → is_among t (deal_strings hash keys s) ≡ true
   listed_heard l t h k =
-      among_right t (map (party_script hash keys) (filter (uses_key keys s.advert) (people s))) _ (among_right t (map (λ p. p.1) (scripts hash keys s)) _ (by_place h))
+      among_right t (map (party_script hash keys) (filter (uses_key keys s.advert) (people s))) _
+      (among_right t (map (λ p. p.1) (scripts hash keys s)) _ (by_place h))
     where
       by_place : Is_in l (listed hash keys s)
           → is_among t (unsigned_strings hash (initial_unsigned hash keys s)

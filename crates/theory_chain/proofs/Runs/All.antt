@@ -272,7 +272,8 @@ module _ (hash : List ℕ → List ℕ) (keys : Keys) (s : Instance) (whole : Wh
           omega (arith, a, b)
 
       goes : (cs : List Confirmed) (course last : Course) → LeadsTo hash s (transactions hash keys s) course cs last → AllSpelled cs
-          → Kept hash keys s course → Counts hash keys s lengths fair course → Gone hash keys s whole lengths fair course → (g : Configuration) → Tracks hash keys s lengths fair g course
+          → Kept hash keys s course → Counts hash keys s lengths fair course
+          → Gone hash keys s whole lengths fair course → (g : Configuration) → Tracks hash keys s lengths fair g course
           → Rising g.time cs tip
           → ((name bytes : List ℕ) → look_up name last.state.shown ≡ Some bytes → lengths name ≡ length bytes - least_secret_bytes)
           → Goes g course cs last tip
@@ -327,7 +328,8 @@ module _ (hash : List ℕ → List ℕ) (keys : Keys) (s : Instance) (whole : Wh
               let same : passed_to g.time (c.height - 1) ≡ g2.time = passed g.time (c.height - 1) before ∙ sym time2 in
               let steps : steps_from g.time (h ∷ more.history) tip ≡ pass_to g.time (c.height - 1) ++ (ss ++ steps_from g2.time more.history tip) =
               ap (λ (n : ℕ). pass_to g.time (c.height - 1) ++ (ss ++ steps_from n more.history tip)) same in
-              let ends : after_steps g (pass_to g.time (c.height - 1) ++ (ss ++ steps_from g2.time more.history tip)) ≡ after_steps g2 (steps_from g2.time more.history tip) =
+              let ends : after_steps g (pass_to g.time (c.height - 1) ++ (ss ++ steps_from g2.time more.history tip))
+              ≡ after_steps g2 (steps_from g2.time more.history tip) =
               after-append g (pass_to g.time (c.height - 1)) (ss ++ steps_from g2.time more.history tip)
               ∙ after-append g1 ss (steps_from g2.time more.history tip) in
               let all = ap (after_steps g) steps ∙ ends in
@@ -351,7 +353,8 @@ module _ (hash : List ℕ → List ℕ) (keys : Keys) (s : Instance) (whole : Wh
               let i = idle course kept counts left c spelled.0 leads.0 leads.1 g tracks shown e in
               let one = one_aside course kept counts left c spelled.0 leads.0 leads.1 g tracks shown i.0 in
               let tracked : Tracks hash keys s lengths fair g (gone_on hash s (transactions hash keys s) course c) =
-              subst (λ (ss : List Step). Tracks hash keys s lengths fair (after_steps g ss) (gone_on hash s (transactions hash keys s) course c)) i.1 one.tracked in
+              subst (λ (ss : List Step). Tracks hash keys s lengths fair (after_steps g ss) (gone_on hash s (transactions hash keys s) course c))
+              i.1 one.tracked in
               let more = rest one.kept one.counts one.gone g tracked (lower cs (c.height - 1) g.time before rising.1) in
               record {
                 history = more.history;
@@ -384,7 +387,8 @@ module _ (hash : List ℕ → List ℕ) (keys : Keys) (s : Instance) (whole : Wh
           let r = goes cs (opening_course hash keys s) last leads spelled kept_first counts_first gone_first g tracks_first rising are in
           let a = agreed_legal s lengths fair whole.checked in
           let history : steps_from 0 last.history tip ≡ steps_from 0 r.history tip = ap (λ (hs : List Happened). steps_from 0 hs tip) r.later in
-          let all : chain_run lengths s last tip ≡ agreed_steps lengths s ++ steps_from 0 r.history tip = ap (λ (ss : List Step). agreed_steps lengths s ++ ss) history in
+          let all : chain_run lengths s last tip ≡ agreed_steps lengths s ++ steps_from 0 r.history tip =
+          ap (λ (ss : List Step). agreed_steps lengths s ++ ss) history in
           let ends : after_steps (deal_opening s) (agreed_steps lengths s ++ steps_from 0 r.history tip) ≡ after_steps g (steps_from 0 r.history tip) =
           after-append (deal_opening s) (agreed_steps lengths s) (steps_from 0 r.history tip)
           ∙ ap (λ (x : Configuration). after_steps x (steps_from 0 r.history tip)) a.1 in

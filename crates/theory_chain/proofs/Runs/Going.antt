@@ -122,7 +122,8 @@ module _ (hash : List ℕ → List ℕ) (keys : Keys) (s : Instance) (whole : Wh
 
         by_before : (o : Option (List ℕ)) → look_up name course.state.shown ≡ o → IsShown hash keys s messages name bytes
         by_before (Some t) f =
-            let same : t ≡ bytes = some_same (sym (look_append hash keys s whole name course.state.shown (strings_shown hash s course.state c.tx) (Some t) f) ∙ e) in
+            let same : t ≡ bytes =
+            some_same (sym (look_append hash keys s whole name course.state.shown (strings_shown hash s course.state c.tx) (Some t) f) ∙ e) in
             let k = kept.shown name t f in
             subst (IsShown hash keys s messages name) same (record {
               among = all_more course.messages (transaction_strings hash c.tx) t k.among;
@@ -133,7 +134,8 @@ module _ (hash : List ℕ → List ℕ) (keys : Keys) (s : Instance) (whole : Wh
         by_before None f =
             let later = sym (look_append hash keys s whole name course.state.shown (strings_shown hash s course.state c.tx) None f) ∙ e in
             let i = looked_in (strings_shown hash s course.state c.tx) name bytes later in
-            let r = from_map (λ (p : List ℕ × List ℕ). (p.0, bytes_or_none (string_shown hash s c.tx (p.0)))) (newly_shown hash s course.state c.tx) (name, bytes) i in
+            let r = from_map (λ (p : List ℕ × List ℕ). (p.0, bytes_or_none (string_shown hash s c.tx (p.0))))
+            (newly_shown hash s course.state c.tx) (name, bytes) i in
             let k = in_filter (λ (p : List ℕ × List ℕ). is_newly_shown hash s course.state c.tx (p.0)) (secrets s.advert.pre) r.0 r.1 in
             let is = by_string r.0 k.0 (string_shown hash s c.tx (r.0.0)) refl
             (second (not (is_some (look_up (r.0.0) course.state.shown))) (is_some (string_shown hash s c.tx (r.0.0))) k.1) in
@@ -253,7 +255,8 @@ module _ (hash : List ℕ → List ℕ) (keys : Keys) (s : Instance) (whole : Wh
             ∙ (λ i. old i || (new i || false))
 
         by_live : (o : Output) (x : List ℕ) → o.held ≡ helds.Deposit x
-            → Is_in o (without_all course.state.live (places_spent c.tx)) ⊎ Is_in o (filter is_position (outputs_made s (transactions hash keys s) course.state c.tx))
+            → Is_in o (without_all course.state.live (places_spent c.tx)) ⊎ Is_in o
+            (filter is_position (outputs_made s (transactions hash keys s) course.state c.tx))
             → is_taken s (gone_on hash s (transactions hash keys s) course c).history x ≡ false
         by_live o x held (inr i) = absurd (no_position o x held (in_filter is_position made o i).1)
         by_live o x held (inl i) =
@@ -391,12 +394,16 @@ module _ (hash : List ℕ → List ℕ) (keys : Keys) (s : Instance) (whole : Wh
           active =
               tracks.active ∙ sym positions_stay
               ∙ sym (append-nil (flat_map active_contract (without_all course.state.live (places_spent c.tx))))
-              ∙ (λ i. flat_map active_contract (without_all course.state.live (places_spent c.tx)) ++ flat_map active_contract (filter is_position (sym made_none i)))
-              ∙ sym (flat_append active_contract (without_all course.state.live (places_spent c.tx)) (filter is_position (outputs_made s (transactions hash keys s) course.state c.tx)));
+              ∙ (λ i. flat_map active_contract (without_all course.state.live (places_spent c.tx))
+              ++ flat_map active_contract (filter is_position (sym made_none i)))
+              ∙ sym (flat_append active_contract (without_all course.state.live (places_spent c.tx))
+              (filter is_position (outputs_made s (transactions hash keys s) course.state c.tx)));
           deposits =
               tracks.deposits
-              ∙ (λ i. left_from (λ x. sym (taken_same (matters did) x) i) 0 (deposits s.advert.pre) ++ flat_map paid_deposit (sym (append-nil course.state.made) i))
-              ∙ (λ i. left_from (is_taken s (if_matters (matters did) course.history did)) 0 (deposits s.advert.pre) ++ flat_map paid_deposit (course.state.made ++ sym made_none i));
+              ∙ (λ i. left_from (λ x. sym (taken_same (matters did) x) i) 0 (deposits s.advert.pre)
+              ++ flat_map paid_deposit (sym (append-nil course.state.made) i))
+              ∙ (λ i. left_from (is_taken s (if_matters (matters did) course.history did)) 0 (deposits s.advert.pre)
+              ++ flat_map paid_deposit (course.state.made ++ sym made_none i));
           revealed = refl;
           next = tracks.next ∙ more course.state.next ∙ (λ i. course.state.next + length (sym made_none i));
         }
@@ -410,7 +417,8 @@ module _ (hash : List ℕ → List ℕ) (keys : Keys) (s : Instance) (whole : Wh
       -- ---- the initial transaction
 
       matters_as : (w : Which) → which_of s (transactions hash keys s) c.tx ≡ Some w
-          → (gone_on hash s (transactions hash keys s) course c).history ≡ course.history ++ happened hash s (transactions hash keys s) course.state c.height c.tx ∷ []
+          → (gone_on hash s (transactions hash keys s) course c).history
+          ≡ course.history ++ happened hash s (transactions hash keys s) course.state c.height c.tx ∷ []
       matters_as w is =
           ap (λ (o : Option Which). if_matters (is_some o || (not (length did.steps == 0) || not (length did.gone == 0))) course.history did) is
 
@@ -421,7 +429,8 @@ module _ (hash : List ℕ → List ℕ) (keys : Keys) (s : Instance) (whole : Wh
         init_places : places_spent c.tx ≡ map (λ (x : Spent). x.outpoint) (initial_unsigned hash keys s).spends
         init_places = same_prevs hash keys s c.tx (initial_unsigned hash keys s) b.same
 
-        init_made : outputs_made s (transactions hash keys s) course.state c.tx ≡ beginning.root_output hash keys s whole lengths fair (shown_course course kept c apart) (kept_shown course kept c apart) counts_shown shown_now tracks_shown b.live ∷ []
+        init_made : outputs_made s (transactions hash keys s) course.state c.tx ≡ beginning.root_output hash keys s whole lengths fair
+            (shown_course course kept c apart) (kept_shown course kept c apart) counts_shown shown_now tracks_shown b.live ∷ []
         init_made =
             ap (outputs_named s (transactions hash keys s) course.state.next) b.is
             ∙ ap (outputs_of s course.state.next) (named_is hash keys s names.Init (initial_listed hash keys s) init_is)
@@ -440,8 +449,10 @@ module _ (hash : List ℕ → List ℕ) (keys : Keys) (s : Instance) (whole : Wh
 
         pub went_first : Went
         went_first =
-            let root = beginning.root_output hash keys s whole lengths fair (shown_course course kept c apart) (kept_shown course kept c apart) counts_shown shown_now tracks_shown b.live in
-            let r = beginning.begins hash keys s whole lengths fair (shown_course course kept c apart) (kept_shown course kept c apart) counts_shown shown_now tracks_shown b.live
+            let root = beginning.root_output hash keys s whole lengths fair
+            (shown_course course kept c apart) (kept_shown course kept c apart) counts_shown shown_now tracks_shown b.live in
+            let r = beginning.begins hash keys s whole lengths fair
+            (shown_course course kept c apart) (kept_shown course kept c apart) counts_shown shown_now tracks_shown b.live
             (gone_on hash s (transactions hash keys s) course c) did (matters_as names.Init b.is) b.is
             (λ i. without_all course.state.live (init_places i) ++ filter is_position (init_made i))
             (λ i. course.state.made ++ init_made i) (λ i. course.state.next + length (init_made i)) refl in
@@ -463,7 +474,8 @@ module _ (hash : List ℕ → List ℕ) (keys : Keys) (s : Instance) (whole : Wh
         position_is = ap position_of (sym (path_named hash keys s t.path t.of.here t.of.i t.of.b t.of.ends)) ∙ position_before t.of.here.position t.of.i
 
         branch_made : outputs_made s (transactions hash keys s) course.state c.tx
-            ≡ taking.makes hash keys s whole lengths fair (shown_course course kept c apart) (kept_shown course kept c apart) counts_shown shown_now tracks_shown t.path t.made t.of t.live (core t.of.b)
+            ≡ taking.makes hash keys s whole lengths fair (shown_course course kept c apart)
+            (kept_shown course kept c apart) counts_shown shown_now tracks_shown t.path t.made t.of t.live (core t.of.b)
         branch_made =
             ap (outputs_named s (transactions hash keys s) course.state.next) t.is
             ∙ ap (outputs_of s course.state.next) (named_is hash keys s (names.At t.path) (path_listed s t.path t.made) t.named)
@@ -485,10 +497,12 @@ module _ (hash : List ℕ → List ℕ) (keys : Keys) (s : Instance) (whole : Wh
             let put = λ (name : List ℕ). deposit hash keys s name (holding_or_none (look_up name (volatile s.advert.pre))) in
             subst (Is_in (outpoint_or_none (look_up x s.bound))) (sym branch_places)
             (in_map (λ (y : Spent). y.outpoint) t.made.spends (put x)
-            (subst (Is_in (put x)) (sym (ap (λ (d : Unsigned). d.spends) t.of.is)) (inr (in_map put (puts_of (core t.of.b)) x (among_is x (puts_of (core t.of.b)) k)))))
+            (subst (Is_in (put x)) (sym (ap (λ (d : Unsigned). d.spends) t.of.is))
+            (inr (in_map put (puts_of (core t.of.b)) x (among_is x (puts_of (core t.of.b)) k)))))
 
         -- what it reveals, and the lengths that it tests
-        tested : taking.Tested hash keys s whole lengths fair (shown_course course kept c apart) (kept_shown course kept c apart) counts_shown shown_now tracks_shown t.path t.made t.of t.live
+        tested : taking.Tested hash keys s whole lengths fair
+            (shown_course course kept c apart) (kept_shown course kept c apart) counts_shown shown_now tracks_shown t.path t.made t.of t.live
         tested =
             let st = position_stands hash keys s t.of.here.position t.of.here t.of.choice t.of.stands in
             let sa = shows_all hash keys s whole t.of.here.position t.of.choice t.of.i t.of.b c.tx
@@ -496,11 +510,13 @@ module _ (hash : List ℕ → List ℕ) (keys : Keys) (s : Instance) (whole : Wh
             (ap (λ (script : List ℕ). opens hash script (first_witness c.tx.inputs)) (sym st.script) ∙ t.opened)
             (ap (λ (q : List PathStep). chosen_by (choices_at s q) (first_witness c.tx.inputs)) (sym position_is) ∙ t.chosen) in
             let known = reveals_known s.advert whole.checked t.of.here.position t.of.choice st.branches t.of.i t.of.b t.of.there in
-            let es = each_shown hash keys s whole course.state c.tx (messages course kept c apart) (clear_later course kept c apart) (item_heard course kept c apart)
+            let es = each_shown hash keys s whole course.state c.tx
+            (messages course kept c apart) (clear_later course kept c apart) (item_heard course kept c apart)
             (shown_later course kept c apart) lengths are (reveals_of (core t.of.b)) sa.strings known sa.fit sa.items in
             record {
               revealed =
-                  every (λ x. is_revealed_by (map (revealed_secret s) (course.state.shown ++ strings_shown hash s course.state c.tx)) deal_contract (look_up x (secrets s.advert.pre)) x)
+                  every (λ x. is_revealed_by (map (revealed_secret s) (course.state.shown ++ strings_shown hash s course.state c.tx)) deal_contract
+                  (look_up x (secrets s.advert.pre)) x)
                   (reveals_of (core t.of.b)) (λ x h.
                   one_revealed x (all_among (λ y. is_among y (names_of (secrets s.advert.pre))) (reveals_of (core t.of.b)) x known h)
                   (all_among (λ y. is_some (look_up y (course.state.shown ++ strings_shown hash s course.state c.tx))) (reveals_of (core t.of.b)) x es.0 h));
@@ -511,10 +527,12 @@ module _ (hash : List ℕ → List ℕ) (keys : Keys) (s : Instance) (whole : Wh
           where
             one_revealed : (x : List ℕ) → is_among x (names_of (secrets s.advert.pre)) ≡ true
                 → is_some (look_up x (course.state.shown ++ strings_shown hash s course.state c.tx)) ≡ true
-                → is_revealed_by (map (revealed_secret s) (course.state.shown ++ strings_shown hash s course.state c.tx)) deal_contract (look_up x (secrets s.advert.pre)) x ≡ true
+                → is_revealed_by (map (revealed_secret s) (course.state.shown ++ strings_shown hash s course.state c.tx)) deal_contract
+                (look_up x (secrets s.advert.pre)) x ≡ true
             one_revealed x k h =
                 let v = named_looked (secrets s.advert.pre) x k in
-                ap (λ (o : Option (List ℕ)). is_revealed_by (map (revealed_secret s) (course.state.shown ++ strings_shown hash s course.state c.tx)) deal_contract o x) v.1
+                ap (λ (o : Option (List ℕ)). is_revealed_by
+                (map (revealed_secret s) (course.state.shown ++ strings_shown hash s course.state c.tx)) deal_contract o x) v.1
                 ∙ revealed_there hash keys s lengths fair whole (course.state.shown ++ strings_shown hash s course.state c.tx) v.0 x v.1 h
 
             lengths_are : (xs : List (List ℕ)) → list_all (λ x. is_among x (names_of (secrets s.advert.pre))) xs ≡ true
@@ -541,10 +559,13 @@ module _ (hash : List ℕ → List ℕ) (keys : Keys) (s : Instance) (whole : Wh
 
         pub went_on : Went
         went_on =
-            let r = taking.taken hash keys s whole lengths fair (shown_course course kept c apart) (kept_shown course kept c apart) counts_shown shown_now tracks_shown t.path t.made t.of t.live
+            let r = taking.taken hash keys s whole lengths fair
+            (shown_course course kept c apart) (kept_shown course kept c apart) counts_shown shown_now tracks_shown t.path t.made t.of t.live
             (gone_on hash s (transactions hash keys s) course c) did (matters_as (names.At t.path) t.is) takes_are
             (λ i. without_all course.state.live (branch_places i) ++ filter is_position (branch_made i))
             (λ i. course.state.made ++ branch_made i) (λ i. course.state.next + length (branch_made i)) refl lock_done tested in
-            let number = taking.first_number hash keys s whole lengths fair (shown_course course kept c apart) (kept_shown course kept c apart) counts_shown shown_now tracks_shown t.path t.made t.of t.live c.tx branch_places in
-            then_steps (branch_steps s (taking.n hash keys s whole lengths fair (shown_course course kept c apart) (kept_shown course kept c apart) counts_shown shown_now tracks_shown t.path t.made t.of t.live) t.of.i (Some t.of.b))
+            let number = taking.first_number hash keys s whole lengths fair (shown_course course kept c apart)
+            (kept_shown course kept c apart) counts_shown shown_now tracks_shown t.path t.made t.of t.live c.tx branch_places in
+            then_steps (branch_steps s (taking.n hash keys s whole lengths fair (shown_course course kept c apart)
+            (kept_shown course kept c apart) counts_shown shown_now tracks_shown t.path t.made t.of t.live) t.of.i (Some t.of.b))
             (ap (which_steps s course.state c.tx) t.is ∙ (λ i. branch_steps s (number i) (t.chosen i) (at_root i))) r.legal r.tracked r.timed

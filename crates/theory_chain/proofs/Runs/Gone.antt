@@ -187,7 +187,8 @@ module _ (hash : List ℕ → List ℕ) (keys : Keys) (s : Instance) (whole : Wh
       own : Bool
       own = is_some (own_transaction (transactions hash keys s) c.tx)
 
-      inputs_fine : inputs_reason s (transactions hash keys s) (is_some (own_transaction (transactions hash keys s) c.tx)) course.state.live 0 c.tx.inputs ≡ None
+      inputs_fine : inputs_reason s (transactions hash keys s)
+          (is_some (own_transaction (transactions hash keys s) c.tx)) course.state.live 0 c.tx.inputs ≡ None
       inputs_fine = first_none _ _ fine
         where
           first_none : {R : Type 0} (a b : Option R) → or_else a b ≡ None → a ≡ None
@@ -200,9 +201,11 @@ module _ (hash : List ℕ → List ℕ) (keys : Keys) (s : Instance) (whole : Wh
       dead_later : (x : List ℕ) → ((o : Output) → Is_in o (without_all course.state.live (places_spent c.tx)) → o.held ≡ helds.Deposit x → ⊥)
           → (o : Output) → Is_in o (gone_on hash s (transactions hash keys s) course c).state.live → o.held ≡ helds.Deposit x → ⊥
       dead_later x old o h held =
-          by_place (in_append o (without_all course.state.live (places_spent c.tx)) (filter is_position (outputs_made s (transactions hash keys s) course.state c.tx)) h)
+          by_place (in_append o (without_all course.state.live (places_spent c.tx))
+          (filter is_position (outputs_made s (transactions hash keys s) course.state c.tx)) h)
         where
-          by_place : Is_in o (without_all course.state.live (places_spent c.tx)) ⊎ Is_in o (filter is_position (outputs_made s (transactions hash keys s) course.state c.tx)) → ⊥
+          by_place : Is_in o (without_all course.state.live (places_spent c.tx))
+              ⊎ Is_in o (filter is_position (outputs_made s (transactions hash keys s) course.state c.tx)) → ⊥
           by_place (inl i) = old o i held
           by_place (inr i) = positions o (in_filter is_position (outputs_made s (transactions hash keys s) course.state c.tx) o i).0 x held
 
@@ -238,7 +241,8 @@ module _ (hash : List ℕ → List ℕ) (keys : Keys) (s : Instance) (whole : Wh
           (o.2 ∙ ap (λ (n : List ℕ). outpoint_or_none (look_up n s.bound)) (sym k.name)) in
           k.dead o.0 o.1 (r.1 ∙ ap helds.Deposit k.name))
 
-      old_later : (b : Bool) (history : List Happened) → history ≡ if_matters b course.history (happened hash s (transactions hash keys s) course.state c.height c.tx)
+      old_later : (b : Bool) (history : List Happened)
+          → history ≡ if_matters b course.history (happened hash s (transactions hash keys s) course.state c.height c.tx)
           → (x : List ℕ) → Is_in x (gone_names course.history)
           → (number : ℕ) × (d : List ℕ × Holding) × HasNumber 0 (deposits s.advert.pre) number d × (d.0 ≡ x) × (is_taken s history x ≡ false)
           × ((o : Output) → Is_in o (gone_on hash s (transactions hash keys s) course c).state.live → o.held ≡ helds.Deposit x → ⊥)
@@ -304,11 +308,13 @@ module _ (hash : List ℕ → List ℕ) (keys : Keys) (s : Instance) (whole : Wh
               → (o : Option Which) → which_of s (transactions hash keys s) c.tx ≡ o → Gone (gone_on hash s (transactions hash keys s) course c)
           by_matters b e o w =
               let h : Happened = happened hash s (transactions hash keys s) course.state c.height c.tx in
-              let history : (gone_on hash s (transactions hash keys s) course c).history ≡ if_matters b course.history h = ap (λ (t : Bool). if_matters t course.history h) e in
+              let history : (gone_on hash s (transactions hash keys s) course c).history ≡ if_matters b course.history h =
+              ap (λ (t : Bool). if_matters t course.history h) e in
               by_kind b o w h.gone (ap (gone_by course.state c.tx) w) history
             where
               by_kind : (t : Bool) (q : Option Which) → which_of s (transactions hash keys s) c.tx ≡ q → (xs : List (List ℕ)) → xs ≡ gone_by course.state c.tx q
-                  → (gone_on hash s (transactions hash keys s) course c).history ≡ if_matters t course.history (happened hash s (transactions hash keys s) course.state c.height c.tx)
+                  → (gone_on hash s (transactions hash keys s) course c).history
+                  ≡ if_matters t course.history (happened hash s (transactions hash keys s) course.state c.height c.tx)
                   → Gone (gone_on hash s (transactions hash keys s) course c)
               by_kind false q f xs k history = record {
                 each = λ x i.
@@ -318,7 +324,8 @@ module _ (hash : List ℕ → List ℕ) (keys : Keys) (s : Instance) (whole : Wh
               }
               by_kind true None f xs k history =
                   let h : Happened = happened hash s (transactions hash keys s) course.state c.height c.tx in
-                  let names : gone_names (gone_on hash s (transactions hash keys s) course c).history ≡ gone_names course.history ++ (deposits_spent course.state c.tx ++ []) =
+                  let names : gone_names (gone_on hash s (transactions hash keys s) course c).history
+                  ≡ gone_names course.history ++ (deposits_spent course.state c.tx ++ []) =
                   ap gone_names history ∙ flat_append (λ (y : Happened). y.gone) course.history (h ∷ [])
                   ∙ ap (λ (ys : List (List ℕ)). gone_names course.history ++ (ys ++ [])) (ap (gone_by course.state c.tx) f) in
                   let end = append-nil (deposits_spent course.state c.tx) in
@@ -333,8 +340,12 @@ module _ (hash : List ℕ → List ℕ) (keys : Keys) (s : Instance) (whole : Wh
                 where
                   each_new : (x : List ℕ) → Is_in x (gone_names course.history) ⊎ Is_in x (deposits_spent course.state c.tx)
                       → IsGone (gone_on hash s (transactions hash keys s) course c) x
-                  each_new x (inl i) = made_of_parts (if_matters true course.history (happened hash s (transactions hash keys s) course.state c.height c.tx)) x (old_later true _ refl x i) (sym history)
-                  each_new x (inr i) = made_of_parts (if_matters true course.history (happened hash s (transactions hash keys s) course.state c.height c.tx)) x (new_gone f true x i) (sym history)
+                  each_new x (inl i) =
+                      made_of_parts (if_matters true course.history (happened hash s (transactions hash keys s) course.state c.height c.tx)) x
+                      (old_later true _ refl x i) (sym history)
+                  each_new x (inr i) =
+                      made_of_parts (if_matters true course.history (happened hash s (transactions hash keys s) course.state c.height c.tx)) x
+                      (new_gone f true x i) (sym history)
               by_kind true (Some w) f xs k history =
                   let h : Happened = happened hash s (transactions hash keys s) course.state c.height c.tx in
                   let names : gone_names (gone_on hash s (transactions hash keys s) course c).history ≡ gone_names course.history =
@@ -343,6 +354,7 @@ module _ (hash : List ℕ → List ℕ) (keys : Keys) (s : Instance) (whole : Wh
                   ∙ append-nil (gone_names course.history) in
                   record {
                     each = λ x i.
-                        made_of_parts (if_matters true course.history h) x (old_later true (if_matters true course.history h) refl x (subst (Is_in x) names i)) (sym history);
+                        made_of_parts (if_matters true course.history h) x
+                        (old_later true (if_matters true course.history h) refl x (subst (Is_in x) names i)) (sym history);
                     apart = ap are_different names ∙ gone.apart;
                   }

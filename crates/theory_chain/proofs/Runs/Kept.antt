@@ -162,7 +162,8 @@ module _ (hash : List ℕ → List ℕ) (keys : Keys) (s : Instance) where
         let d = deposit_of s o h in
         let place : o.place ≡ outpoint_or_none (look_up (d.0.0) s.bound) = ap (λ (x : Output). x.place) d.2 in
         let name : is_among (d.0.0) (names_of s.bound) ≡ true =
-        subst (λ ns. is_among (d.0.0) ns ≡ true) (sym whole.apart.bound) (in_named (deposits s.advert.pre) d.0 (numbered_in 0 (deposits s.advert.pre) o.number d.0 d.1)) in
+        subst (λ ns. is_among (d.0.0) ns ≡ true)
+        (sym whole.apart.bound) (in_named (deposits s.advert.pre) d.0 (numbered_in 0 (deposits s.advert.pre) o.number d.0 d.1)) in
         let v = named_looked s.bound (d.0.0) name in
         let lies : v.0 ≡ o.place = sym (place ∙ ap outpoint_or_none v.1) in
         no_deposit_made hash keys s (d.0.0, v.0) whole.apart.unmade (looked_in s.bound (d.0.0) (v.0) (v.1))
@@ -180,7 +181,9 @@ module _ (hash : List ℕ → List ℕ) (keys : Keys) (s : Instance) where
               let tx = same_txid hash keys s whole c.by_which a.by_which c.among a.among (c.id ∙ e ∙ sym a.id) in
               let firsts : map (λ (y : TxIn). y.prev) (tx_of c.by_which.pending).inputs ≡ map (λ (y : TxIn). y.prev) (tx_of a.by_which.pending).inputs =
               ap (λ (t : Tx). map (λ (y : TxIn). y.prev) t.inputs) tx in
-              let same : c.first ≡ a.first = some_same (sym c.first_is ∙ first_of c.by_which.pending.spends ∙ ap head_of firsts ∙ sym (first_of a.by_which.pending.spends) ∙ a.first_is) in
+              let same : c.first ≡ a.first =
+              some_same (sym c.first_is ∙ first_of c.by_which.pending.spends
+              ∙ ap head_of firsts ∙ sym (first_of a.by_which.pending.spends) ∙ a.first_is) in
               both_ways _ c.spent (subst (λ (p : OutPoint). has_place course.state.live p ≡ true) (sym same) a.live)
             where
               head_of : List OutPoint → Option OutPoint
@@ -317,7 +320,11 @@ module _ (hash : List ℕ → List ℕ) (keys : Keys) (s : Instance) where
     pub own_adds : (state : State) (tx : Tx) (which : Which) (l : Listed) → listed_at hash keys s which ≡ Some l → l.which ≡ which
         → which_of s (transactions hash keys s) tx ≡ Some which → bare tx ≡ tx_of l.pending → AllLive hash keys s state l.pending
         → Adds state (places_spent tx) (outputs_made s (transactions hash keys s) state tx)
-    own_adds state tx which l named name is same live = subst (Adds state (places_spent tx)) (sym made_is) (record { made = made_by_it; apart = apart_by_it; numbers = numbers_by_it })
+    own_adds state tx which l named name is same live = subst (Adds state (places_spent tx)) (sym made_is) (record {
+      made = made_by_it;
+      apart = apart_by_it;
+      numbers = numbers_by_it;
+    })
       where
         t : Transaction
         t = transaction hash keys s.advert l

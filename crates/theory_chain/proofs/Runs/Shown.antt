@@ -109,7 +109,8 @@ module _ (hash : List ℕ → List ℕ) (keys : Keys) (s : Instance) (whole : Wh
       let c = and_parts (bytes_eq (script_of w) (position_script hash keys s q choice)) _ a.1 in
       let d = and_parts (not (list_any is_long (items_of w))) _ c.1 in
       let op = (opens_exactly hash keys s q takes_all choice (items_of w) whole.are_keys comp (all_short (items_of w) (not-true _ d.0))).true_opens d.1 in
-      let count : choices_at s q ≡ length (branches choice) = ap (λ (o : Option Contract). option_map_or (λ (x : Contract). length (branches x)) o 0) comp.is_position in
+      let count : choices_at s q ≡ length (branches choice) =
+      ap (λ (o : Option Contract). option_map_or (λ (x : Contract). length (branches x)) o 0) comp.is_position in
       let same : op.i ≡ i =
       sym (opened_is_chosen hash keys takes_all s q choice (reverse (items_of w)) op)
       ∙ (λ j. chosen (sym count j) (sym (stack_of w a.0) j)) ∙ selects in
@@ -166,7 +167,8 @@ module _ (hash : List ℕ → List ℕ) (keys : Keys) (s : Instance) (whole : Wh
       by_before None e =
           let v = named_looked (secrets s.advert.pre) a known in
           let new : is_newly_shown hash s state tx a ≡ true = rw e string in
-          let among = filter_has (λ (p : List ℕ × List ℕ). is_newly_shown hash s state tx (p.0)) (secrets s.advert.pre) (a, v.0) (looked_in (secrets s.advert.pre) a v.0 v.1) new in
+          let among = filter_has (λ (p : List ℕ × List ℕ). is_newly_shown hash s state tx (p.0))
+          (secrets s.advert.pre) (a, v.0) (looked_in (secrets s.advert.pre) a v.0 v.1) new in
           ap is_some
           (look_append a state.shown (strings_shown hash s state tx) None e
           ∙ looked_shown tx (newly_shown hash s state tx) a (in_named (newly_shown hash s state tx) (a, v.0) among))

@@ -320,8 +320,10 @@ module _ (hash : List ℕ → List ℕ) (keys : Keys) (s : Instance) (whole : Wh
       by_place q place (inl e) = ap (λ (x : Output). x.number) (kept_so.once o stood.output h stood.among (place ∙ e ∙ sym stood.place))
       by_place q place (inr i) =
           let a = from_map (λ (x : Spent). x.outpoint) (put_deposits hash keys s (puts_of (core of.b))) q i in
-          let b = from_map (λ (name : List ℕ). deposit hash keys s name (holding_or_none (look_up name (volatile s.advert.pre)))) (puts_of (core of.b)) a.0 a.1 in
-          let needed = all_in (λ (x : List ℕ). is_among x (needed_deposits s.advert)) (puts_of (core of.b)) b.0 (puts_needed hash keys s whole.checked path of.here of.i of.b of.ends) b.1 in
+          let b = from_map (λ (name : List ℕ). deposit hash keys s name (holding_or_none (look_up name (volatile s.advert.pre))))
+          (puts_of (core of.b)) a.0 a.1 in
+          let needed = all_in (λ (x : List ℕ). is_among x (needed_deposits s.advert))
+          (puts_of (core of.b)) b.0 (puts_needed hash keys s whole.checked path of.here of.i of.b of.ends) b.1 in
           let v = named_looked (deposits s.advert.pre) b.0 needed in
           absurd (position_apart hash keys s lengths fair whole course kept_so o p (b.0, v.0) h held (looked_in (deposits s.advert.pre) b.0 v.0 v.1)
           (place ∙ a.2 ∙ ap (λ (x : Spent). x.outpoint) b.2))
@@ -478,7 +480,8 @@ module _ (hash : List ℕ → List ℕ) (keys : Keys) (s : Instance) (whole : Wh
         let none : numbers_of (deal_bindings s) (puts_of (core of.b)) ≡ [] = ap (λ (c : term.Guarded). numbers_of (deal_bindings s) (puts_of c)) e in
         let new = ap makes e in
         let left : kept g.deposits (numbers_of (deal_bindings s) (puts_of (core of.b))) ≡ g.deposits = ap (kept g.deposits) none ∙ kept_none g.deposits in
-        let tracked = finish (withdrawn mid n (Some act) p) (subst IsFine ends (fine_along mid (steps.Withdraw n of.i ∷ []) mid_fine (legal, tt))) refl refl refl refl
+        let tracked = finish (withdrawn mid n (Some act) p)
+        (subst IsFine ends (fine_along mid (steps.Withdraw n of.i ∷ []) mid_fine (legal, tt))) refl refl refl refl
         (sym (append-nil (others g.active n)) ∙ (λ i. others g.active n ++ flat_map active_contract (filter is_position (sym new i))))
         ((λ i. sym left i ++ record { number = tracks.next i; owner = owners.Party p; value = of.here.output.value - fee_is i } ∷ [])
         ∙ (λ i. kept g.deposits (numbers_of (deal_bindings s) (puts_of (core of.b))) ++ flat_map paid_deposit (sym new i)))
@@ -512,7 +515,8 @@ module _ (hash : List ℕ → List ℕ) (keys : Keys) (s : Instance) (whole : Wh
         let new = ap makes e in
         let left : kept g.deposits (numbers_of (deal_bindings s) (puts_of (core of.b))) ≡ g.deposits = ap (kept g.deposits) none ∙ kept_none g.deposits in
         let parts = parts_active hash keys s txid_of path (branch_path of.here.position of.i) 0 course.state.next ps in
-        let tracked = finish (divided mid n of.i (Some act) (part_values ps)) (subst IsFine ends (fine_along mid (steps.Split n of.i ∷ []) mid_fine (legal, tt))) refl refl refl refl
+        let tracked = finish (divided mid n of.i (Some act) (part_values ps))
+        (subst IsFine ends (fine_along mid (steps.Split n of.i ∷ []) mid_fine (legal, tt))) refl refl refl refl
         ((λ i. others g.active n ++ parts_made (tracks.next i) deal_contract (same_path i) 0 (part_values ps))
         ∙ (λ i. others g.active n ++ sym parts i)
         ∙ (λ i. others g.active n ++ flat_map active_contract (filter is_position (sym new i))))
@@ -532,7 +536,8 @@ module _ (hash : List ℕ → List ℕ) (keys : Keys) (s : Instance) (whole : Wh
     puts_there : are_there g.deposits (deal_bindings s) (puts_of (core of.b)) ≡ true
     puts_there =
         deposits_left hash keys s lengths fair whole course kept_so g tracks counts (puts_of (core of.b)) (λ x k.
-        let needed = all_among (λ (y : List ℕ). is_among y (needed_deposits s.advert)) (puts_of (core of.b)) x (puts_needed hash keys s whole.checked path of.here of.i of.b of.ends) k in
+        let needed = all_among (λ (y : List ℕ). is_among y (needed_deposits s.advert))
+        (puts_of (core of.b)) x (puts_needed hash keys s whole.checked path of.here of.i of.b of.ends) k in
         let v = named_looked (deposits s.advert.pre) x needed in
         let put = deposit hash keys s x (holding_or_none (look_up x (volatile s.advert.pre))) in (
           v.0,
@@ -581,7 +586,8 @@ module _ (hash : List ℕ → List ℕ) (keys : Keys) (s : Instance) (whole : Wh
         let t = taken_at mid mid_fine n of.i (ap is_some is_active) (ap is_some is_branch) in
         let branch : t.branch ≡ of.b = some_same (sym t.taken ∙ is_branch) in
         let advert : t.held.advert ≡ s.advert = some_same (sym t.of_advert ∙ ap (advert_of g.contracts) is_active ∙ of_advert) in
-        let there : are_there mid.deposits (bindings_of mid.advertised (contract_number (active_at mid.active n))) (puts_of_taken (branch_at mid n of.i)) ≡ true =
+        let there : are_there mid.deposits (bindings_of mid.advertised (contract_number (active_at mid.active n)))
+        (puts_of_taken (branch_at mid n of.i)) ≡ true =
         (λ i. are_there g.deposits (bindings_of g.advertised (contract_number (is_active i))) (puts_of_taken (is_branch i)))
         ∙ ap (λ (bs : List (List ℕ × ℕ)). are_there g.deposits bs (puts_of (core of.b))) bindings_are ∙ puts_there in
         let value : total_value (gone g.deposits ns) ≡ value_of_puts (volatile s.advert.pre) puts =
@@ -589,7 +595,8 @@ module _ (hash : List ℕ → List ℕ) (keys : Keys) (s : Instance) (whole : Wh
         ∙ put_value mid mid_fine n of.i t puts reveals test nx (ap core branch ∙ e) there
         ∙ ap (λ (a : Advert). value_of_puts (volatile a.pre) puts) advert in
         let new = ap makes e in
-        let tracked = finish (continued mid n of.i (Some act) ns) (subst IsFine ends (fine_along mid (steps.PutReveal n of.i ∷ []) mid_fine (legal, tt))) refl refl refl refl
+        let tracked = finish (continued mid n of.i (Some act) ns)
+        (subst IsFine ends (fine_along mid (steps.PutReveal n of.i ∷ []) mid_fine (legal, tt))) refl refl refl refl
         ((λ i. others g.active n ++ record {
           number = tracks.next i;
           contract = deal_contract;

@@ -163,7 +163,8 @@ module _ (hash : List ℕ → List ℕ) (keys : Keys) (s : Instance) (lengths : 
         ≡ record g { revealed = map (revealed_secret s) (course.state.shown ++ strings_shown hash s course.state tx) })
     first_revealed g course tx tracks =
         let new = newly_shown hash s course.state tx in
-        let r = reveals_legal s lengths fair g new g.revealed tracks.committed (filtered_different (λ p. is_newly_shown hash s course.state tx (p.0)) (secrets s.advert.pre) (secret_names hash keys s whole)) (λ p h.
+        let r = reveals_legal s lengths fair g new g.revealed tracks.committed
+        (filtered_different (λ p. is_newly_shown hash s course.state tx (p.0)) (secrets s.advert.pre) (secret_names hash keys s whole)) (λ p h.
         let k = in_filter (λ (q : List ℕ × List ℕ). is_newly_shown hash s course.state tx (q.0)) (secrets s.advert.pre) p h in
         let none = none_shown (look_up (p.0) course.state.shown) (is_some (string_shown hash s tx (p.0))) k.1 in (
           k.0,

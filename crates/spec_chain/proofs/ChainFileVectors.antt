@@ -133,7 +133,8 @@ unfolding digits many wide_at compact_at string_at input_at inputs_at output_at 
     transaction_at all_at
 a_byte_more = refl
 
-pub blanks_and_empty_lines : told (codes "  " ++ 10 ∷ (codes "height " ++ 9 ∷ (codes "699000 " ++ 13 ∷ 10 ∷ (tx_line initial_digits ++ 13 ∷ 10 ∷ 10 ∷ codes "height 699100"))))
+pub blanks_and_empty_lines : told
+    (codes "  " ++ 10 ∷ (codes "height " ++ 9 ∷ (codes "699000 " ++ 13 ∷ 10 ∷ (tx_line initial_digits ++ 13 ∷ 10 ∷ 10 ∷ codes "height 699100"))))
     ≡ line (codes "confirmed 3 699000") (codes "tip 699100")
 unfolding digits many wide_at compact_at string_at input_at inputs_at output_at outputs_at witness_at witnesses_at plain_at marked_at
     transaction_at all_at

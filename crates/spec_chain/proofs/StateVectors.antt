@@ -56,7 +56,8 @@ unfolding digits label_text stripped marked compact position_script item_of_numb
     places_list sequences_list outputs_list preimage
 may_begin = refl
 
-pub begun : told a_bet (all_but (codes "r.1") (codes "B:0:r.1:B")) [] (line (codes "height 699000") (line (sent a_bet names.Init) (line (codes "height 699100") [])))
+pub begun : told a_bet (all_but (codes "r.1") (codes "B:0:r.1:B")) []
+    (line (codes "height 699000") (line (sent a_bet names.Init) (line (codes "height 699100") [])))
     ≡
     line (codes "confirmed init 699000") (
     line (codes "step authinit 0 A x") (
@@ -110,7 +111,8 @@ unfolding digits label_text stripped marked compact position_script item_of_numb
     places_list sequences_list outputs_list preimage
 lock_reached = refl
 
-pub shown : told a_bet all_signed [] (line (codes "height 699000") (line (sent a_bet names.Init) (line (codes "height 699200") (line (sent a_bet reveal) (line (codes "height 699201") [])))))
+pub shown : told a_bet all_signed []
+    (line (codes "height 699000") (line (sent a_bet names.Init) (line (codes "height 699200") (line (sent a_bet reveal) (line (codes "height 699201") [])))))
     ≡
     line (codes "confirmed init 699000") (
     line (codes "step authinit 0 A x") (
@@ -128,7 +130,8 @@ unfolding digits label_text stripped marked compact position_script item_of_numb
     places_list sequences_list outputs_list preimage
 shown = refl
 
-pub paid_late : told a_bet all_signed [] (line (codes "height 699000") (line (sent a_bet names.Init) (line (codes "height 700001") (line (sent a_bet late) []))))
+pub paid_late : told a_bet all_signed []
+    (line (codes "height 699000") (line (sent a_bet names.Init) (line (codes "height 700001") (line (sent a_bet late) []))))
     ≡
     line (codes "confirmed init 699000") (
     line (codes "step authinit 0 A x") (
@@ -154,7 +157,8 @@ unfolding digits label_text stripped marked compact position_script item_of_numb
     places_list sequences_list outputs_list preimage
 begun_twice = refl
 
-pub position_that_is_not_made : told a_bet unsigned [] (line (codes "height 699000") (line (sent a_bet names.Init) (line (codes "height 699001") (line (sent a_bet paid) []))))
+pub position_that_is_not_made : told a_bet unsigned []
+    (line (codes "height 699000") (line (sent a_bet names.Init) (line (codes "height 699001") (line (sent a_bet paid) []))))
     ≡
     line (codes "chain refused line 4 input 0") []
 unfolding digits label_text stripped marked compact position_script item_of_number signed_bytes number_of_item many wide_at compact_at
@@ -162,7 +166,8 @@ unfolding digits label_text stripped marked compact position_script item_of_numb
     places_list sequences_list outputs_list preimage
 position_that_is_not_made = refl
 
-pub deposit_that_is_gone : told a_bet unsigned [] (line (codes "height 699000") (line (line_of_tx (stranger (deposit_place 1) [])) (line (sent a_bet names.Init) [])))
+pub deposit_that_is_gone : told a_bet unsigned []
+    (line (codes "height 699000") (line (line_of_tx (stranger (deposit_place 1) [])) (line (sent a_bet names.Init) [])))
     ≡
     line (codes "chain refused line 3 input 1") []
 unfolding digits label_text stripped marked compact position_script item_of_number signed_bytes number_of_item many wide_at compact_at
@@ -170,7 +175,8 @@ unfolding digits label_text stripped marked compact position_script item_of_numb
     places_list sequences_list outputs_list preimage
 deposit_that_is_gone = refl
 
-pub position_spent_otherwise : told a_bet unsigned [] (line (codes "height 699000") (line (sent a_bet names.Init) (line (line_of_tx (stranger root_place [])) [])))
+pub position_spent_otherwise : told a_bet unsigned []
+    (line (codes "height 699000") (line (sent a_bet names.Init) (line (line_of_tx (stranger root_place [])) [])))
     ≡
     line (codes "chain refused line 3 foreign 0") []
 unfolding digits label_text stripped marked compact position_script item_of_number signed_bytes number_of_item many wide_at compact_at
@@ -178,7 +184,8 @@ unfolding digits label_text stripped marked compact position_script item_of_numb
     places_list sequences_list outputs_list preimage
 position_spent_otherwise = refl
 
-pub lock_not_below : told a_bet unsigned [] (line (codes "height 699000") (line (sent a_bet names.Init) (line (codes "height 700000") (line (sent a_bet late) []))))
+pub lock_not_below : told a_bet unsigned []
+    (line (codes "height 699000") (line (sent a_bet names.Init) (line (codes "height 700000") (line (sent a_bet late) []))))
     ≡
     line (codes "chain refused line 4 lock") []
 unfolding digits label_text stripped marked compact position_script item_of_number signed_bytes number_of_item many wide_at compact_at
@@ -194,7 +201,8 @@ unfolding digits label_text stripped marked compact position_script item_of_numb
     places_list sequences_list outputs_list preimage
 no_witness = refl
 
-pub another_string : told a_bet unsigned [] (line (codes "height 699000") (line (sent a_bet names.Init) (line (sent_with (string a (codes "00112233445566778899aabbccddeeff0103") ∷ []) a_bet reveal) [])))
+pub another_string : told a_bet unsigned [] (line (codes "height 699000")
+    (line (sent a_bet names.Init) (line (sent_with (string a (codes "00112233445566778899aabbccddeeff0103") ∷ []) a_bet reveal) [])))
     ≡
     line (codes "chain refused line 3 witness 0") []
 unfolding digits label_text stripped marked compact position_script item_of_number signed_bytes number_of_item many wide_at compact_at
@@ -232,7 +240,8 @@ unfolding digits label_text stripped marked compact position_script item_of_numb
     places_list sequences_list outputs_list preimage
 an_item_more = refl
 
-pub another_script : told a_bet unsigned [] (line (codes "height 699000") (line (sent_but (second_changed (λ items. items_of items ++ party_script weigh keys A ∷ [])) a_bet names.Init) []))
+pub another_script : told a_bet unsigned []
+    (line (codes "height 699000") (line (sent_but (second_changed (λ items. items_of items ++ party_script weigh keys A ∷ [])) a_bet names.Init) []))
     ≡
     line (codes "chain refused line 2 witness 1") []
 unfolding digits label_text stripped marked compact position_script item_of_number signed_bytes number_of_item many wide_at compact_at
@@ -240,7 +249,8 @@ unfolding digits label_text stripped marked compact position_script item_of_numb
     places_list sequences_list outputs_list preimage
 another_script = refl
 
-pub an_item_of_521_bytes : told a_bet unsigned [] (line (codes "height 699000") (line (sent a_bet names.Init) (line (sent_but (first_changed long_first) a_bet reveal) [])))
+pub an_item_of_521_bytes : told a_bet unsigned []
+    (line (codes "height 699000") (line (sent a_bet names.Init) (line (sent_but (first_changed long_first) a_bet reveal) [])))
     ≡
     line (codes "chain refused line 3 witness 0") []
 unfolding digits label_text stripped marked compact position_script item_of_number signed_bytes number_of_item many wide_at compact_at

@@ -77,7 +77,8 @@ a_split = record {
 abbrev put_in : Which
 put_in = names.At (To 0 ∷ (Into 0 ∷ (To 0 ∷ [])))
 
-pub second_of_two_paths : told a_twin all_signed [] (line (codes "height 1") (line (sent a_twin names.Init) (line (codes "height 2") (line (sent a_twin second) []))))
+pub second_of_two_paths : told a_twin all_signed []
+    (line (codes "height 1") (line (sent a_twin names.Init) (line (codes "height 2") (line (sent a_twin second) []))))
     ≡
     line (codes "confirmed init 1") (
     line (codes "step authinit 0 A x") (
@@ -93,7 +94,8 @@ unfolding digits label_text stripped marked compact position_script item_of_numb
     places_list sequences_list outputs_list preimage
 second_of_two_paths = refl
 
-pub deposit_gone : told a_put all_signed [] (line (codes "height 699000") (line (sent a_put names.Init) (line (codes "height 699001") (line (stranger_line 2 []) (line (codes "height 699002") [])))))
+pub deposit_gone : told a_put all_signed []
+    (line (codes "height 699000") (line (sent a_put names.Init) (line (codes "height 699001") (line (stranger_line 2 []) (line (codes "height 699002") [])))))
     ≡
     line (codes "confirmed init 699000") (
     line (codes "step authinit 0 A x") (
@@ -113,7 +115,8 @@ unfolding digits label_text stripped marked compact position_script item_of_numb
     places_list sequences_list outputs_list preimage
 deposit_gone = refl
 
-pub false_and_gone : told a_pair unsigned a_pair.strings (line (codes "height 1") (line (sent a_pair names.Init) (line (stranger_line 2 []) (line (codes "height 2") []))))
+pub false_and_gone : told a_pair unsigned a_pair.strings
+    (line (codes "height 1") (line (sent a_pair names.Init) (line (stranger_line 2 []) (line (codes "height 2") []))))
     ≡
     line (codes "confirmed init 1") (
     line (codes "step authinit 0 A x") (
@@ -143,7 +146,8 @@ unfolding digits label_text stripped marked compact position_script item_of_numb
     places_list sequences_list outputs_list preimage
 false_and_gone = refl
 
-pub put_by_another_part : told a_split all_signed [] (line (codes "height 1") (line (sent a_split names.Init) (line (sent a_split first) (line (codes "height 2") (line (sent a_split put_in) [])))))
+pub put_by_another_part : told a_split all_signed []
+    (line (codes "height 1") (line (sent a_split names.Init) (line (sent a_split first) (line (codes "height 2") (line (sent a_split put_in) [])))))
     ≡
     line (codes "confirmed init 1") (
     line (codes "step authinit 0 A x") (
@@ -192,7 +196,8 @@ crossed =
     of_listed (λ (l : Listed). line_of_tx (finished weigh keys (deal a_bet) [] a_bet.strings
     (record l { which = first; signers = path_signers (deal a_bet) (To 0 ∷ []) }))) a_bet second
 
-pub branch_of_another_transaction : told a_bet unsigned [] (line (codes "height 699000") (line (sent a_bet names.Init) (line (codes "height 700001") (line (crossed) []))))
+pub branch_of_another_transaction : told a_bet unsigned []
+    (line (codes "height 699000") (line (sent a_bet names.Init) (line (codes "height 700001") (line (crossed) []))))
     ≡
     line (codes "chain refused line 4 branch") []
 unfolding digits label_text stripped marked compact position_script item_of_number signed_bytes number_of_item many wide_at compact_at
@@ -255,7 +260,8 @@ unfolding digits label_text stripped marked compact position_script item_of_numb
     places_list sequences_list outputs_list preimage
 nobody_signed = refl
 
-pub one_of_two_secrets : told a_pair all_signed (string (codes "b") (codes "8db373a68a9a9970f1aac10b16595ced63") ∷ []) (line (codes "height 1") (line (sent a_pair names.Init) (line (codes "height 2") [])))
+pub one_of_two_secrets : told a_pair all_signed (string (codes "b") (codes "8db373a68a9a9970f1aac10b16595ced63") ∷ [])
+    (line (codes "height 1") (line (sent a_pair names.Init) (line (codes "height 2") [])))
     ≡
     line (codes "confirmed init 1") (
     line (codes "step authinit 0 A x") (
@@ -288,7 +294,10 @@ read_again text = elim (read_behind weigh (deal a_bet) [] text) [
   | collided earlier later ↦ codes "collided"
 ]
 
-pub state_read_again : read_again (line (codes "confirmed init 699000") (line (codes "step authinit 0 A x") (line (codes "gone x") (line (codes "live #3 r.0 00 0 118000") (line (codes "paid #4 A 00 0 1") (line (codes "secret a 00112233445566778899aabbccddeeff0102") (line (codes "height 699201") (line (codes "can r.0.0") (line (codes "cannot r.1") (line (codes "needs secret a of A") (line (codes "never: deposit gone") (line (codes "waits A") []))))))))))))
+pub state_read_again : read_again
+    (line (codes "confirmed init 699000") (line (codes "step authinit 0 A x") (line (codes "gone x") (line (codes "live #3 r.0 00 0 118000")
+    (line (codes "paid #4 A 00 0 1") (line (codes "secret a 00112233445566778899aabbccddeeff0102") (line (codes "height 699201") (line (codes "can r.0.0")
+    (line (codes "cannot r.1") (line (codes "needs secret a of A") (line (codes "never: deposit gone") (line (codes "waits A") []))))))))))))
     ≡ line a []
 state_read_again = refl
 

@@ -117,7 +117,8 @@ module _ (hash : List ℕ → List ℕ) (keys : Keys) (s : Instance) (small : s.
     parts_payable path made k no_part h = refl
     parts_payable path made k (part v c ps) h =
         let p = and_parts (is_kept s.advert.fee (as_funded (part_position path k) (pos v) (terms.position c))) _ h in
-        let q = all_parts (is_kept s.advert.fee) (below_choice (part_position path k) v 0 c) (parts_funded (volatile s.advert.pre) s.advert.fee path (k + 1) ps) p.1 in
+        let q = all_parts (is_kept s.advert.fee)
+        (below_choice (part_position path k) v 0 c) (parts_funded (volatile s.advert.pre) s.advert.fee path (k + 1) ps) p.1 in
         let m = and_parts (not (int_lt (pos v) (pos 0)) && true) (not (int_lt (pos max_money) (pos v))) p.0 in
         all_append is_payable (choice_transactions hash keys s (part_standing hash keys s path made k v c) 0 c)
         (parts_transactions hash keys s path made (k + 1) ps)

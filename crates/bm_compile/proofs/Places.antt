@@ -60,7 +60,9 @@ module _ {V : Type 0} where
         by_kind true (e ∷ rest) whole names led_on =
             let first : e.0 ≡ path_of n = cc in
             let others : map (λ x. x.0) rest ≡ named kind ns = cc in
-            let here : value_at es (Some k) ≡ Some (e.1) = ap (λ j. option_map (λ x. x.1) (slice_get es j)) size ∙ ap (λ l. option_map (λ x. x.1) (slice_get l (length before))) whole ∙ ap (option_map (λ x. x.1)) (get_at before e rest) in
+            let here : value_at es (Some k) ≡ Some (e.1) =
+            ap (λ j. option_map (λ x. x.1) (slice_get es j)) size
+            ∙ ap (λ l. option_map (λ x. x.1) (slice_get l (length before))) whole ∙ ap (option_map (λ x. x.1)) (get_at before e rest) in
             let there : at_path (path_of n) es ≡ Some (e.1) =
             ap (λ p. at_path p es) (sym first) ∙ ap (at_path e.0) whole ∙ at_once before e rest (subst (λ l. are_once (map (λ x. x.0) l) ≡ true) whole once) in
             let longer : k + 1 ≡ length (before ++ e ∷ []) = (let l = length-append before (e ∷ []) in omega (arith, size, l)) in

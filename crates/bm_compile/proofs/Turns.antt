@@ -22,7 +22,8 @@ use Rattle.bm_compile.proofs.Walks.{Walked, walked_more, walked_stops}
 
 module _ {H X P : Type 0} (f : (Message → Message) → List PathStep × Unsigned → P) (view : X → Node) (digest : H → Message → Message)
     (keys : Keys) (s : Instance) (script : ℕ → List ℕ) (first here : H) (same : here ≡ first)
-    (xs : List X) (i : ℕ) (x : X) (lt : i < length xs) (at : x ≡ get_or xs i x) (stack : List Waiting) (old mid new : List Message) (all : List (List PathStep × Unsigned)) (made : List P) where
+    (xs : List X) (i : ℕ) (x : X) (lt : i < length xs)
+    (at : x ≡ get_or xs i x) (stack : List Waiting) (old mid new : List Message) (all : List (List PathStep × Unsigned)) (made : List P) where
   abbrev hash : Message → Message
   hash = digest first
 
@@ -65,7 +66,8 @@ module _ {H X P : Type 0} (f : (Message → Message) → List PathStep × Unsign
       let now = subst (λ r. Walked (f hash) (ready_strings hash) hash old mid all r made) parted w in
       let left = subst (λ l. list_all is_payable l ≡ true) now.rest_is (all_drop is_payable (length made) all h) in
       let others = rest (next_stack hash keys s script (view x) stack) in
-      let p = and_parts (list_all is_payable (made_by hash keys s script (view x) stack)) (list_all is_payable others) (sym (list_all-append is_payable (made_by hash keys s script (view x) stack) others) ∙ left) in
+      let p = and_parts (list_all is_payable (made_by hash keys s script (view x) stack))
+      (list_all is_payable others) (sym (list_all-append is_payable (made_by hash keys s script (view x) stack) others) ∙ left) in
       subst (λ k. list_all is_payable (made_by (digest k) keys s script (view x) stack) ≡ true) (sym same) p.0
 
 -- no node is left

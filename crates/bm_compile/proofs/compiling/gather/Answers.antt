@@ -38,7 +38,8 @@ of-requires-clause-keys g c =
     let hash = g.H.Hash32.digest_of c.args.trail.now.hasher in
     let keys = g.K.KeySource.keys c.args.source.now in
     let s = c.args.setting.now in
-    let listed_keys = c.in_ok-keys.ensures ∙ keys_whole hash keys s _ c.args.made.3 c.nodes_give_paths.ensures (c.nodes.ensures ∙ c.requires.root) c.requires.keys in
+    let listed_keys = c.in_ok-keys.ensures
+    ∙ keys_whole hash keys s _ c.args.made.3 c.nodes_give_paths.ensures (c.nodes.ensures ∙ c.requires.root) c.requires.keys in
     ap length listed_keys ∙ length-map (compilation hash keys s).paths (λ p. branch_keys hash keys s p.0) ∙ sym (ap length c.requires.paths)
 
 pub returns : goal.returns
@@ -47,7 +48,20 @@ returns g c =
     let keys = g.K.KeySource.keys c.args.source.now in
     let s = c.args.setting.now in
     let init = c.into_prepared.ensures ∙ ap (λ d. d.prepared) c.requires.init in
-    let listed_keys = c.in_ok-keys.ensures ∙ keys_whole hash keys s _ c.args.made.3 c.nodes_give_paths.ensures (c.nodes.ensures ∙ c.requires.root) c.requires.keys in
-    let parts : Numbered = record { nodes = c.args.arena; init = c.into_prepared.result; paths = c.args.made.1; scripts = c.args.made.2; keys = c.in_ok-keys.keys } in
-    let whole : parts ≡ numbered hash keys s = λ j. record { nodes = c.requires.root j; init = init j; paths = c.requires.paths j; scripts = c.requires.scripts j; keys = listed_keys j } in
+    let listed_keys = c.in_ok-keys.ensures
+    ∙ keys_whole hash keys s _ c.args.made.3 c.nodes_give_paths.ensures (c.nodes.ensures ∙ c.requires.root) c.requires.keys in
+    let parts : Numbered = record {
+      nodes = c.args.arena;
+      init = c.into_prepared.result;
+      paths = c.args.made.1;
+      scripts = c.args.made.2;
+      keys = c.in_ok-keys.keys;
+    } in
+    let whole : parts ≡ numbered hash keys s = λ j. record {
+      nodes = c.requires.root j;
+      init = init j;
+      paths = c.requires.paths j;
+      scripts = c.requires.scripts j;
+      keys = listed_keys j;
+    } in
     subst (λ t. IfOk c.of.result (λ x. x ≡ t)) whole c.of.ensures

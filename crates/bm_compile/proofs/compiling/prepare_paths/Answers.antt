@@ -40,7 +40,8 @@ returns-clause-made g c =
     let script = listed_script c.args.scripts.now in
     let nodes = map node_view c.nodes.result.now in
     let whole = ap (λ w. walk hash keys s script nodes (w ∷ [])) c.root_waiting-root.ensures
-    ∙ walk_whole hash keys s script nodes c.args.init.now c.nodes_give_transactions.ensures (c.nodes.ensures ∙ c.requires.root) c.requires.scripts c.requires.initial in
+    ∙ walk_whole hash keys s script nodes c.args.init.now c.nodes_give_transactions.ensures
+    (c.nodes.ensures ∙ c.requires.root) c.requires.scripts c.requires.initial in
     subst (λ l. IfOk c.prepare_nodes.result (λ made. made ≡ map (kept_of g.M.Kept.kept hash) l)) whole c.prepare_nodes.ensures.made
 
 pub returns-clause-trail : goal.returns-clause-trail
@@ -51,6 +52,7 @@ returns-clause-trail g c =
     let script = listed_script c.args.scripts.now in
     let nodes = map node_view c.nodes.result.now in
     let whole = ap (λ w. walk hash keys s script nodes (w ∷ [])) c.root_waiting-root.ensures
-    ∙ walk_whole hash keys s script nodes c.args.init.now c.nodes_give_transactions.ensures (c.nodes.ensures ∙ c.requires.root) c.requires.scripts c.requires.initial in
+    ∙ walk_whole hash keys s script nodes c.args.init.now c.nodes_give_transactions.ensures
+    (c.nodes.ensures ∙ c.requires.root) c.requires.scripts c.requires.initial in
     subst (λ l. Hashes g.H.Hash32.digest_of c.args.trail.now c.prepare_nodes.new.trail (flat_map (ready_strings hash) l)
     c.prepare_nodes.result) whole c.prepare_nodes.ensures.trail

@@ -12,5 +12,7 @@ loop-value-preserved c =
     let few = c.loop-value.invariant.few in
     record {
       few = omega (arith, sum, whole, few);
-      waits = λ hash d same. parts_less hash d c.args.txid c.loop-value.rest.now c.in-Some.others.now c.in-Some.field-0-0.now (reverse c.loop-value.stack.items) (reverse c.push.new.stack.items) _ same cut c.in_ok-push.ensures (c.loop-value.invariant.waits hash d same);
+      waits =
+          λ hash d same. parts_less hash d c.args.txid c.loop-value.rest.now c.in-Some.others.now c.in-Some.field-0-0.now
+          (reverse c.loop-value.stack.items) (reverse c.push.new.stack.items) _ same cut c.in_ok-push.ensures (c.loop-value.invariant.waits hash d same);
     }

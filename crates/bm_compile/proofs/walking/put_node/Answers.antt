@@ -12,5 +12,6 @@ put_branch-requires-clause-sum g c =
     ap reverse c.in-Some.ensures.items ∙ reverse-append c.pop.new.self.items (c.in-Some.waiting ∷ []) in
     node_sum (g.H.Hash32.digest_of c.args.trail.now.hasher) (g.K.KeySource.keys c.args.source.now) c.args.setting.now
     (listed_script c.args.scripts.now) (node_view c.args.node.now)
-    (reverse c.args.stack.now.items) (reverse c.pop.new.self.items) c.in-Some.waiting c.in-Branch.path c.in-Branch.asks.items c.in-Branch.lock (deed_view c.in-Branch.core)
+    (reverse c.args.stack.now.items) (reverse c.pop.new.self.items) c.in-Some.waiting c.in-Branch.path c.in-Branch.asks.items c.in-Branch.lock
+    (deed_view c.in-Branch.core)
     (ap node_view c.in-Branch.is) top c.requires.payable

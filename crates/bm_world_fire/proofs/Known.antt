@@ -15,7 +15,8 @@ use Rattle.bm_hash.specs.Messages.{message_of, evidence_of}
 use Rattle.bm_hash.proofs.Evidence.{find_among, none_at, apart, noted_among, among_noted}
 use Rattle.bm_world_fire.specs.Shown.{if_shown, shown_by}
 
-module _ (s : Setup) (messages posted : List (List ℕ)) (clear : evidence_of s.hash messages ≡ None) (heard : (t : List ℕ) → is_among t posted ≡ true → is_among t messages ≡ true) where
+module _ (s : Setup) (messages posted : List (List ℕ))
+    (clear : evidence_of s.hash messages ≡ None) (heard : (t : List ℕ) → is_among t posted ≡ true → is_among t messages ≡ true) where
   -- the string that fits is the message with this digest
   fits_one : (d t m : List ℕ) → is_among t posted ≡ true → bytes_eq (s.hash t) d ≡ true → message_of s.hash messages d ≡ Some m → m ≡ t
   fits_one d t m there same found =

@@ -25,7 +25,8 @@ module _ (hash : List ℕ → List ℕ) where
       ++ deposits_items hash (drop (k + 1) owners) (drop (k + 1) digests) ≡ all
   owner_step owners digests k owner d now new all lt at there pushed so =
       let cut : drop k owners ≡ owner ∷ drop (k + 1) owners = drop_more owners k owner lt ∙ ap (λ z. z ∷ drop (k + 1) owners) (sym at) in
-      let first : deposits_items hash (drop k owners) (drop k digests) ≡ deposit_items hash owner d ∷ deposits_items hash (drop (k + 1) owners) (drop (k + 1) digests) =
+      let first : deposits_items hash (drop k owners) (drop k digests)
+      ≡ deposit_items hash owner d ∷ deposits_items hash (drop (k + 1) owners) (drop (k + 1) digests) =
       ap (λ l. deposits_items hash l (drop k digests)) cut ∙ first_owner owner d (drop (k + 1) owners) (drop k digests) (get-drop k digests ∙ there)
       ∙ ap (λ ds. deposit_items hash owner d ∷ deposits_items hash (drop (k + 1) owners) ds) (drop-next k digests) in
       ap (λ l. l ++ deposits_items hash (drop (k + 1) owners) (drop (k + 1) digests)) pushed

@@ -61,7 +61,8 @@ module _ (s : Setup) (setup : IsSetup s) (g : Configuration) (w : World) (keeps 
   -- the initial transaction of a contract begins it
   start_begins : (k : ℕ) (st : Instance) → compiled_instance s w k ≡ Some st → (spent : List ℕ) → kind_of s w (initial_transaction s st) spent
       ≡ Begins k
-  start_begins k st compiled spent = ap (λ o. kind_by s (initial_transaction s st) spent o (first_position w spent)) (by_contract (initial_of s w (initial_transaction s st)) refl)
+  start_begins k st compiled spent =
+      ap (λ o. kind_by s (initial_transaction s st) spent o (first_position w spent)) (by_contract (initial_of s w (initial_transaction s st)) refl)
     where
       same_bare : bare (initial_transaction s st) ≡ bare (tx_of (initial_unsigned s.hash st))
       same_bare = with-bare (tx_of (initial_unsigned s.hash st)) (initial_witnesses s st (prepared s.hash (initial_unsigned s.hash st)))
@@ -70,7 +71,8 @@ module _ (s : Setup) (setup : IsSetup s) (g : Configuration) (w : World) (keeps 
       by_contract None e = absurd (not_initial s w (initial_transaction s st) k st e compiled same_bare)
       by_contract (Some j) e =
           let is = initial_is s w (initial_transaction s st) j e in
-          let q = one_initial s setup.hash setup.few_contracts w (checks s setup g w keeps) w.hashed keeps.clear keeps.book.heard k j st is.instance compiled is.compiled (sym same_bare ∙ is.is) in
+          let q = one_initial s setup.hash setup.few_contracts w
+          (checks s setup g w keeps) w.hashed keeps.clear keeps.book.heard k j st is.instance compiled is.compiled (sym same_bare ∙ is.is) in
           ap Some (sym q)
 
   pub start_purpose : (k : ℕ) (st : Instance) → compiled_instance s w k ≡ Some st → (tx : Tx) → tx ≡ initial_transaction s st → (p : Purpose)
@@ -112,7 +114,8 @@ module _ (s : Setup) (setup : IsSetup s) (g : Configuration) (w : World) (keeps 
         by_contract (Some k) e =
             let first = initial_is s w tx k e in
             let same : bare (tx_of unsigned) ≡ bare (tx_of (initial_unsigned s.hash first.instance)) = sym same_bare ∙ first.is in
-            let d = first_persistent s.hash first.instance (persistent first.instance.advert.pre) (input_of fine.here.output) _ (ap (λ (y : Tx). y.inputs) same) in
+            let d = first_persistent s.hash first.instance
+            (persistent first.instance.advert.pre) (input_of fine.here.output) _ (ap (λ (y : Tx). y.inputs) same) in
             let a = at_bound s g w keeps.book k first.instance first.compiled (d.0.0) (d.0.1) (persistent_deposit first.instance.advert.pre d.0 d.1) in
             let m = keeps.book.apart n a.number out.output a.bound.output out.there a.bound.there (fine.outpoint ∙ d.2 ∙ a.outpoint) in
             let o : (let y : Option Output = Some out.output in y) ≡ Some a.bound.output = sym out.there ∙ ap (slice_get w.outputs) m ∙ a.bound.there in
@@ -124,7 +127,8 @@ module _ (s : Setup) (setup : IsSetup s) (g : Configuration) (w : World) (keeps 
     fired_takes : kind_of s w tx (spent_in w tx) ≡ Takes held n j
     fired_takes =
         let alive : out.output.live ≡ true = is_live out.output held (sym (ap live_position out.there) ∙ live) in
-        let number : spent_number (live_from 0 w.outputs) (record (input_of fine.here.output) { witness = branch_witness s w fine.instance held j fine.choice b (first_digest (prepared s.hash unsigned)) }) ≡ n =
+        let number : spent_number (live_from 0 w.outputs) (record (input_of fine.here.output)
+        { witness = branch_witness s w fine.instance held j fine.choice b (first_digest (prepared s.hash unsigned)) }) ≡ n =
         ap (λ p. option_map_or (λ (q : ℕ × TxOut). q.0) (at_place (live_from 0 w.outputs) p) 0) (sym fine.outpoint)
         ∙ entry_number w keeps.book.apart n out.output out.there alive in
         let rest = drop 1 (spent_in w tx) in

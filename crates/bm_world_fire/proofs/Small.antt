@@ -85,7 +85,8 @@ few_volatile (Secret party name ∷ pre) = few_volatile pre
 few_deposits : (a : Advert) → IsWellFormed a → length (deposits a.pre) ≤ 32
 few_deposits a h =
     let r = (and_parts (is_readable_pre a.pre) (nat_le a.fee max_money && is_readable_contract a.root) h.readable).0 in
-    let p = (and_parts (is_some_list a.pre && list_all is_readable_entry a.pre) (nat_le (length (deposits a.pre)) most_deposits && nat_le (length (secrets a.pre)) most_secrets) r).1 in
+    let p = (and_parts (is_some_list a.pre && list_all is_readable_entry a.pre)
+    (nat_le (length (deposits a.pre)) most_deposits && nat_le (length (secrets a.pre)) most_secrets) r).1 in
     let q = (and_parts (nat_le (length (deposits a.pre)) most_deposits) (nat_le (length (secrets a.pre)) most_secrets) p).0 in
     grind (arith, nat_tests, q)
 
@@ -105,7 +106,8 @@ module _ (s : Setup) (setup : IsSetup s) (g : Configuration) (w : World) (keeps 
           let b = length_map (λ d. deposit s.hash st (d.0) (d.1)) (persistent st.advert.pre) in
           let l = few_persistent st.advert.pre in
           let m = few_deposits st.advert (compiled_checked s setup w contract st c) in
-          let numbered = started_numbered s setup.hash setup.few_contracts [] g w keeps.book (fits s setup g w keeps) (checks s setup g w keeps) keeps.clear contract tx h in
+          let numbered = started_numbered s setup.hash setup.few_contracts [] g w keeps.book
+          (fits s setup g w keeps) (checks s setup g w keeps) keeps.clear contract tx h in
           record {
             inputs = subst (λ (t : Tx). length t.inputs ≤ 524288) z (omega (arith, n, a, b, l, m));
             outputs = subst (λ (t : Tx). length t.outputs ≤ 524288) z (omega arith);
@@ -134,15 +136,19 @@ module _ (s : Setup) (setup : IsSetup s) (g : Configuration) (w : World) (keeps 
               let ch = choice_there s w held is in
               let f = no_fault is.instance.advert well in
               let known = puts_known is.instance.advert well held.position is.choice ch j b there in
-              let once = (and_parts (are_different (puts_of (core b))) (are_different (reveals_of (core b))) (core_fact (λ y. are_different (puts_of y) && are_different (reveals_of y)) is.instance.advert held.position is.choice j b f.1.1.1.0 ch there)).0 in
+              let once = (and_parts (are_different (puts_of (core b))) (are_different (reveals_of (core b))) (core_fact
+              (λ y. are_different (puts_of y) && are_different (reveals_of y)) is.instance.advert held.position is.choice j b f.1.1.1.0 ch there)).0 in
               let fewer = no_more (puts_of (core b)) (names_of (volatile is.instance.advert.pre)) once known in
               let l = few_volatile is.instance.advert.pre in
               let m = few_deposits is.instance.advert well in
               let a = length_map input_of (put_deposits s.hash is.instance (puts_of (core b))) in
-              let c = length_map (λ name. deposit s.hash is.instance name (holding_or_none (look_up name (volatile is.instance.advert.pre)))) (puts_of (core b)) in
+              let c = length_map (λ name. deposit s.hash is.instance name (holding_or_none (look_up name (volatile is.instance.advert.pre))))
+              (puts_of (core b)) in
               let readable = branch_is_readable s.hash is.instance well held.position is.here is.choice j b is.stands there in
               let o = outputs_few s.hash is.instance (branch_path is.here.position j) is.here.output.value (core b) (core_readable b readable) in
-              let k = length-witnessed (tx_of d).inputs (witnesses_with s w.posted held.contract is.instance.advert (digests_at w.promises held.contract) (position_path held j) j (length (branches is.choice)) b (prepared s.hash d) (position_script s.hash is.instance held.position is.choice)) in
+              let k = length-witnessed (tx_of d).inputs
+              (witnesses_with s w.posted held.contract is.instance.advert (digests_at w.promises held.contract) (position_path held j) j
+              (length (branches is.choice)) b (prepared s.hash d) (position_script s.hash is.instance held.position is.choice)) in
               by_tx _ z (omega (arith, k, fewer, l, m, a, c)) (omega (arith, o))
             where
               by_tx : (t : Tx) → (let y : Option Tx = Some t in y) ≡ Some tx → length t.inputs ≤ 524288 → length t.outputs ≤ 524288 → IsSmall tx

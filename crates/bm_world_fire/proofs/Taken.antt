@@ -84,7 +84,9 @@ module _ (s : Setup) (w : World) (held : ContractPosition) (is : IsStanding s w 
 
   pub script_is : (script : List ℕ) → Some script ≡ script_at s.hash is.instance held.position → script
       ≡ position_script s.hash is.instance held.position is.choice
-  script_is script e = let x : (let y : Option (List ℕ) = Some script in y) ≡ Some (position_script s.hash is.instance held.position is.choice) = e ∙ script_there in cc
+  script_is script e =
+      let x : (let y : Option (List ℕ) = Some script in y) ≡ Some (position_script s.hash is.instance held.position is.choice) = e ∙ script_there in
+      cc
 
   module _ (j : ℕ) (b : term.Guarded) (found : position_branch s held j ≡ Some b) where
     pub branch_there : slice_get (branches is.choice) j ≡ Some b
@@ -103,7 +105,10 @@ module _ (s : Setup) (w : World) (held : ContractPosition) (is : IsStanding s w 
 
     pub made_is : (made : Prepared) → Some made ≡ prepared_at s.hash is.instance (position_path held j) → made
         ≡ prepared s.hash (branch_unsigned s.hash is.instance is.here j b)
-    made_is made e = let x : (let y : Option Prepared = Some made in y) ≡ Some (prepared s.hash (branch_unsigned s.hash is.instance is.here j b)) = e ∙ made_there in cc
+    made_is made e =
+        let x : (let y : Option Prepared = Some made in y) ≡ Some (prepared s.hash (branch_unsigned s.hash is.instance is.here j b)) =
+        e ∙ made_there in
+        cc
 
     pub some_digest : 0 < length (prepared s.hash (branch_unsigned s.hash is.instance is.here j b)).digests
     some_digest = omega arith
@@ -126,9 +131,11 @@ module _ (s : Setup) (w : World) (held : ContractPosition) (is : IsStanding s w 
     taking_is =
         let d = prepared s.hash (branch_unsigned s.hash is.instance is.here j b) in
         let script = position_script s.hash is.instance held.position is.choice in
-        let with_hashes = ap (λ hs. taking_with s w.posted held.contract is.instance.advert hs (position_path held j) j (length (branches is.choice)) b d script) (sym hashes_are) in
+        let with_hashes = ap (λ hs. taking_with s w.posted held.contract is.instance.advert hs
+        (position_path held j) j (length (branches is.choice)) b d script) (sym hashes_are) in
         let signed = signatures_are (first_digest d) in
         let deposits = deposits_each s (map (owner_in is.instance.advert.pre) (puts_of (core b))) (other_digests d.digests) in
-        let filled : taking_with s w.posted held.contract is.instance.advert is.instance.hashes (position_path held j) j (length (branches is.choice)) b d script ≡ taking_transaction s w is.instance held j is.choice b d =
+        let filled : taking_with s w.posted held.contract is.instance.advert is.instance.hashes
+        (position_path held j) j (length (branches is.choice)) b d script ≡ taking_transaction s w is.instance held j is.choice b d =
         λ i. with_witnesses d.tx (witness_of (signed i) (shown_for s w.posted is.instance.hashes b) j (length (branches is.choice)) script ∷ deposits i) in
         ap Some (with_hashes ∙ filled) ∙ sym taking_whole

@@ -35,7 +35,8 @@ returns-in_default-branch_held-clause-ok g c =
     let w = world_of c.args.board.now messages in
     let held = c.in-Some.held.now in
     let live : live_position_at w c.args.output ≡ Some held = sym c.held_at.ensures ∙ ap option_copied c.in-Some.is in
-    let none : position_branch s held c.args.branch ≡ None = sym (c.branch_held.ensures hash) ∙ ap (option_map (λ r. guarded r.now)) c.in_default-branch_held.is in
+    let none : position_branch s held c.args.branch ≡ None =
+    sym (c.branch_held.ensures hash) ∙ ap (option_map (λ r. guarded r.now)) c.in_default-branch_held.is in
     prepares_refused hash w messages _ _ _ _ (sym (refused_branchless s w c.args.output c.args.branch held live none))
     c.refused-in_default-branch_held.ensures.same c.refused-in_default-branch_held.ensures.change c.requires.playable.clear
 
@@ -65,7 +66,8 @@ pending_taking-requires-clause-opened g c =
     let w = world_of c.args.board.now c.args.trail.now.messages in
     let held = c.in-Some.held.now in
     let live : live_position_at w c.args.output ≡ Some held = sym c.held_at.ensures ∙ ap option_copied c.in-Some.is in
-    let there : position_branch s held c.args.branch ≡ Some (guarded c.in-Some-branch_held.taken.now) = sym (c.branch_held.ensures hash) ∙ ap (option_map (λ r. guarded r.now)) c.in-Some-branch_held.is in
+    let there : position_branch s held c.args.branch ≡ Some (guarded c.in-Some-branch_held.taken.now) =
+    sym (c.branch_held.ensures hash) ∙ ap (option_map (λ r. guarded r.now)) c.in-Some-branch_held.is in
     record {
       output = c.args.output;
       live = live ∙ ap Some (sym c.in_ok-taking.ensures.held);
@@ -83,7 +85,8 @@ returns-in-Some-first_unshown-clause-ok g c =
     let held = c.in-Some.held.now in
     let taken = guarded c.in-Some-branch_held.taken.now in
     let live : live_position_at w c.args.output ≡ Some held = sym c.held_at.ensures ∙ ap option_copied c.in-Some.is in
-    let there : position_branch s held c.args.branch ≡ Some taken = sym (c.branch_held.ensures hash) ∙ ap (option_map (λ r. guarded r.now)) c.in-Some-branch_held.is in
+    let there : position_branch s held c.args.branch ≡ Some taken =
+    sym (c.branch_held.ensures hash) ∙ ap (option_map (λ r. guarded r.now)) c.in-Some-branch_held.is in
     let is = (standing_of s c.requires.playable.kept.config w c.requires.playable.kept.books).held c.args.output held live in
     let hashes = c.as_slice.ensures ∙ c.in_ok-taking.ensures.taking.hashes ∙ ap (λ h. digests_at b.exchange.promises h.contract) c.in_ok-taking.ensures.held in
     let name = c.first_unshown.ensures ∙ (λ i. first_unshown_by s b.exchange.posted (hashes i) (c.reveals-secrets.ensures i))
@@ -102,12 +105,14 @@ returns-in_err-pending_change-clause-err g c =
     let held = c.in-Some.held.now in
     let taken = guarded c.in-Some-branch_held.taken.now in
     let live : live_position_at w c.args.output ≡ Some held = sym c.held_at.ensures ∙ ap option_copied c.in-Some.is in
-    let there : position_branch s held c.args.branch ≡ Some taken = sym (c.branch_held.ensures hash) ∙ ap (option_map (λ r. guarded r.now)) c.in-Some-branch_held.is in
+    let there : position_branch s held c.args.branch ≡ Some taken =
+    sym (c.branch_held.ensures hash) ∙ ap (option_map (λ r. guarded r.now)) c.in-Some-branch_held.is in
     let is = (standing_of s c.requires.playable.kept.config w c.requires.playable.kept.books).held c.args.output held live in
     let hashes = c.as_slice.ensures ∙ c.in_ok-taking.ensures.taking.hashes ∙ ap (λ h. digests_at b.exchange.promises h.contract) c.in_ok-taking.ensures.held in
     let name = c.first_unshown.ensures ∙ (λ i. first_unshown_by s b.exchange.posted (hashes i) (c.reveals-secrets.ensures i))
     ∙ unknown_some s w held.contract taken _ (ap (option_map (numbered s.hash)) is.compiled) in
-    let made : taking_of_position s w (Some c.in_ok-taking.taking.held.now) c.in_ok-taking.taking.number ≡ taking_of_position s w (live_position_at w c.args.output) c.args.branch =
+    let made : taking_of_position s w (Some c.in_ok-taking.taking.held.now) c.in_ok-taking.taking.number
+    ≡ taking_of_position s w (live_position_at w c.args.output) c.args.branch =
     (λ i. taking_of_position s w (Some (c.in_ok-taking.ensures.held i)) (c.in_ok-taking.ensures.number i))
     ∙ ap (λ o. taking_of_position s w o c.args.branch) (sym live) in
     let p = err_from_is_err_and c.from_residual-in_err-pending_change.result c.from_residual-in_err-pending_change.ensures.1 in
@@ -125,12 +130,14 @@ returns-clause-ok g c =
     let held = c.in-Some.held.now in
     let taken = guarded c.in-Some-branch_held.taken.now in
     let live : live_position_at w c.args.output ≡ Some held = sym c.held_at.ensures ∙ ap option_copied c.in-Some.is in
-    let there : position_branch s held c.args.branch ≡ Some taken = sym (c.branch_held.ensures hash) ∙ ap (option_map (λ r. guarded r.now)) c.in-Some-branch_held.is in
+    let there : position_branch s held c.args.branch ≡ Some taken =
+    sym (c.branch_held.ensures hash) ∙ ap (option_map (λ r. guarded r.now)) c.in-Some-branch_held.is in
     let is = (standing_of s c.requires.playable.kept.config w c.requires.playable.kept.books).held c.args.output held live in
     let hashes = c.as_slice.ensures ∙ c.in_ok-taking.ensures.taking.hashes ∙ ap (λ h. digests_at b.exchange.promises h.contract) c.in_ok-taking.ensures.held in
     let name = c.first_unshown.ensures ∙ (λ i. first_unshown_by s b.exchange.posted (hashes i) (c.reveals-secrets.ensures i))
     ∙ unknown_some s w held.contract taken _ (ap (option_map (numbered s.hash)) is.compiled) in
-    let made : taking_of_position s w (Some c.in_ok-taking.taking.held.now) c.in_ok-taking.taking.number ≡ taking_of_position s w (live_position_at w c.args.output) c.args.branch =
+    let made : taking_of_position s w (Some c.in_ok-taking.taking.held.now) c.in_ok-taking.taking.number
+    ≡ taking_of_position s w (live_position_at w c.args.output) c.args.branch =
     (λ i. taking_of_position s w (Some (c.in_ok-taking.ensures.held i)) (c.in_ok-taking.ensures.number i))
     ∙ ap (λ o. taking_of_position s w o c.args.branch) (sym live) in
     prepares_passed hash w w messages _ _ [] (reaches_if s w (taking_of_position s w (live_position_at w c.args.output) c.args.branch)) _

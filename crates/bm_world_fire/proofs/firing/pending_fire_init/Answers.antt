@@ -30,7 +30,8 @@ returns-in_default-compiled-clause-ok g c =
     let s = setup_of hash c.args.board.now in
     let w = world_of c.args.board.now messages in
     let there = sym c.contract.ensures ∙ ap (option_map (λ r. r.now)) c.in-Some.is in
-    let none = sym (compiled_is s w c.args.contract c.args.board.now.compiled c.requires.playable.compiled) ∙ sym c.compiled.ensures ∙ ap (option_map (λ r. r.now)) c.in_default-compiled.is in
+    let none = sym (compiled_is s w c.args.contract c.args.board.now.compiled c.requires.playable.compiled)
+    ∙ sym c.compiled.ensures ∙ ap (option_map (λ r. r.now)) c.in_default-compiled.is in
     prepares_refused hash w messages _ _ _ _ (sym (refused_uncompiled s w c.args.contract _ there none))
     c.refused-in_default-compiled.ensures.same c.refused-in_default-compiled.ensures.change c.requires.playable.clear
 
@@ -39,7 +40,8 @@ reach-requires-clause-few g c =
     let s = setup_of (g.H.Hash32.digest_of c.args.trail.now.hasher) c.args.board.now in
     let w = world_of c.args.board.now c.args.trail.now.messages in
     let there = sym c.contract.ensures ∙ ap (option_map (λ r. r.now)) c.in-Some.is in
-    let some = sym (compiled_is s w c.args.contract c.args.board.now.compiled c.requires.playable.compiled) ∙ sym c.compiled.ensures ∙ ap (option_map (λ r. r.now)) c.in-Some-compiled.is in
+    let some = sym (compiled_is s w c.args.contract c.args.board.now.compiled c.requires.playable.compiled)
+    ∙ sym c.compiled.ensures ∙ ap (option_map (λ r. r.now)) c.in-Some-compiled.is in
     let is = started s w c.args.contract _ _ there some c.in_ok-tx.tx (rw c.hasher.ensures at c.in_ok-tx.ensures) in
     let keeps = c.requires.playable.kept in
     let small = (small_of s c.requires.playable.setup keeps.config w keeps.books).initial c.args.contract c.in_ok-tx.tx (sym (started_is s w _ _ is)) in
@@ -50,7 +52,8 @@ reach-requires-clause-room g c =
     let s = setup_of (g.H.Hash32.digest_of c.args.trail.now.hasher) c.args.board.now in
     let w = world_of c.args.board.now c.args.trail.now.messages in
     let there = sym c.contract.ensures ∙ ap (option_map (λ r. r.now)) c.in-Some.is in
-    let some = sym (compiled_is s w c.args.contract c.args.board.now.compiled c.requires.playable.compiled) ∙ sym c.compiled.ensures ∙ ap (option_map (λ r. r.now)) c.in-Some-compiled.is in
+    let some = sym (compiled_is s w c.args.contract c.args.board.now.compiled c.requires.playable.compiled)
+    ∙ sym c.compiled.ensures ∙ ap (option_map (λ r. r.now)) c.in-Some-compiled.is in
     let is = started s w c.args.contract _ _ there some c.in_ok-tx.tx (rw c.hasher.ensures at c.in_ok-tx.ensures) in
     let keeps = c.requires.playable.kept in
     let small = (small_of s c.requires.playable.setup keeps.config w keeps.books).initial c.args.contract c.in_ok-tx.tx (sym (started_is s w _ _ is)) in
@@ -61,7 +64,8 @@ reach-requires-clause-fresh g c =
     let s = setup_of (g.H.Hash32.digest_of c.args.trail.now.hasher) c.args.board.now in
     let w = world_of c.args.board.now c.args.trail.now.messages in
     let there = sym c.contract.ensures ∙ ap (option_map (λ r. r.now)) c.in-Some.is in
-    let some = sym (compiled_is s w c.args.contract c.args.board.now.compiled c.requires.playable.compiled) ∙ sym c.compiled.ensures ∙ ap (option_map (λ r. r.now)) c.in-Some-compiled.is in
+    let some = sym (compiled_is s w c.args.contract c.args.board.now.compiled c.requires.playable.compiled)
+    ∙ sym c.compiled.ensures ∙ ap (option_map (λ r. r.now)) c.in-Some-compiled.is in
     let is = started s w c.args.contract _ _ there some c.in_ok-tx.tx (rw c.hasher.ensures at c.in_ok-tx.ensures) in
     let keeps = c.requires.playable.kept in
     let small = (small_of s c.requires.playable.setup keeps.config w keeps.books).initial c.args.contract c.in_ok-tx.tx (sym (started_is s w _ _ is)) in
@@ -72,7 +76,8 @@ reach-requires-clause-purpose g c =
     let s = setup_of (g.H.Hash32.digest_of c.args.trail.now.hasher) c.args.board.now in
     let w = world_of c.args.board.now c.args.trail.now.messages in
     let there = sym c.contract.ensures ∙ ap (option_map (λ r. r.now)) c.in-Some.is in
-    let some = sym (compiled_is s w c.args.contract c.args.board.now.compiled c.requires.playable.compiled) ∙ sym c.compiled.ensures ∙ ap (option_map (λ r. r.now)) c.in-Some-compiled.is in
+    let some = sym (compiled_is s w c.args.contract c.args.board.now.compiled c.requires.playable.compiled)
+    ∙ sym c.compiled.ensures ∙ ap (option_map (λ r. r.now)) c.in-Some-compiled.is in
     let is = started s w c.args.contract _ _ there some c.in_ok-tx.tx (rw c.hasher.ensures at c.in_ok-tx.ensures) in
     let keeps = c.requires.playable.kept in
     start_purpose s c.requires.playable.setup keeps.config w keeps.books c.args.contract is.instance is.compiled c.in_ok-tx.tx is.is _
@@ -85,7 +90,8 @@ returns-in_err-pending_change-clause-err g c =
     let s = setup_of hash c.args.board.now in
     let w = world_of c.args.board.now messages in
     let there = sym c.contract.ensures ∙ ap (option_map (λ r. r.now)) c.in-Some.is in
-    let some = sym (compiled_is s w c.args.contract c.args.board.now.compiled c.requires.playable.compiled) ∙ sym c.compiled.ensures ∙ ap (option_map (λ r. r.now)) c.in-Some-compiled.is in
+    let some = sym (compiled_is s w c.args.contract c.args.board.now.compiled c.requires.playable.compiled)
+    ∙ sym c.compiled.ensures ∙ ap (option_map (λ r. r.now)) c.in-Some-compiled.is in
     let is = started s w c.args.contract _ _ there some c.in_ok-tx.tx (rw c.hasher.ensures at c.in_ok-tx.ensures) in
     let p = err_from_is_err_and c.from_residual-in_err-pending_change.result c.from_residual-in_err-pending_change.ensures.1 in
     rw (p.1, p.2) (stops_passed hash w messages _ _ [] (reaches_if s w (initial_by s (compiled_instance s w c.args.contract))) _
@@ -99,7 +105,8 @@ returns-clause-ok g c =
     let s = setup_of hash c.args.board.now in
     let w = world_of c.args.board.now messages in
     let there = sym c.contract.ensures ∙ ap (option_map (λ r. r.now)) c.in-Some.is in
-    let some = sym (compiled_is s w c.args.contract c.args.board.now.compiled c.requires.playable.compiled) ∙ sym c.compiled.ensures ∙ ap (option_map (λ r. r.now)) c.in-Some-compiled.is in
+    let some = sym (compiled_is s w c.args.contract c.args.board.now.compiled c.requires.playable.compiled)
+    ∙ sym c.compiled.ensures ∙ ap (option_map (λ r. r.now)) c.in-Some-compiled.is in
     let is = started s w c.args.contract _ _ there some c.in_ok-tx.tx (rw c.hasher.ensures at c.in_ok-tx.ensures) in
     prepares_passed hash w w messages _ _ [] (reaches_if s w (initial_by s (compiled_instance s w c.args.contract))) _
     (sym (passed s w c.args.contract _ _ there some))

@@ -21,7 +21,8 @@ returns-in_default-message g c =
     let messages = c.args.trail.now.messages in
     let looked : look_up c.args.name.now c.args.hashes.now ≡ Some c.in-Some.digest.now = sym c.digest_of.ensures ∙ ap (option_map (λ d. d.now)) c.in-Some.is in
     let none : message_of s.hash messages c.in-Some.digest.now ≡ None = sym c.message.ensures ∙ ap option_copied c.in_default-message.is in
-    sym (shown_some s messages posted c.requires.playable.clear c.requires.playable.posted.hashed c.args.hashes.now c.args.name.now c.in-Some.digest.now looked ∙ ap (option_and_then (if_shown posted)) none)
+    sym (shown_some s messages posted c.requires.playable.clear c.requires.playable.posted.hashed
+    c.args.hashes.now c.args.name.now c.in-Some.digest.now looked ∙ ap (option_and_then (if_shown posted)) none)
 
 pub returns : goal.returns
 returns g c =
@@ -29,5 +30,7 @@ returns g c =
     let posted = c.args.board.now.exchange.posted in
     let messages = c.args.trail.now.messages in
     let looked : look_up c.args.name.now c.args.hashes.now ≡ Some c.in-Some.digest.now = sym c.digest_of.ensures ∙ ap (option_map (λ d. d.now)) c.in-Some.is in
-    let some : message_of s.hash messages c.in-Some.digest.now ≡ Some c.in-Some-message.string.now = sym c.message.ensures ∙ ap option_copied c.in-Some-message.is in
-    c.if_shown.ensures ∙ sym (shown_some s messages posted c.requires.playable.clear c.requires.playable.posted.hashed c.args.hashes.now c.args.name.now c.in-Some.digest.now looked ∙ ap (option_and_then (if_shown posted)) some)
+    let some : message_of s.hash messages c.in-Some.digest.now ≡ Some c.in-Some-message.string.now =
+    sym c.message.ensures ∙ ap option_copied c.in-Some-message.is in
+    c.if_shown.ensures ∙ sym (shown_some s messages posted c.requires.playable.clear c.requires.playable.posted.hashed
+    c.args.hashes.now c.args.name.now c.in-Some.digest.now looked ∙ ap (option_and_then (if_shown posted)) some)

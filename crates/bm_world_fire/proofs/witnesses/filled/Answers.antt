@@ -23,5 +23,6 @@ returns g c =
     let shown = map (λ name. bytes_or_none (shown_by s posted t.hashes name)) (reveals_of (core (guarded t.branch.now))) in
     let first = c.in_ok-first.ensures ∙ ap (λ x. witness_of x shown t.number c.args.branches c.args.script.now) (c.deref.ensures.value ∙ signed) in
     let pre = c.as_slice-pre.ensures.value ∙ ap (λ a. a.pre) c.behind-taking.view_is ∙ ap (λ a. a.pre) c.advert.ensures.value in
-    let witnesses = (rw c.hasher-hasher.ensures at c.in_ok-witnesses.ensures) ∙ (λ i. first i ∷ deposits_items hash (map (owner_in (pre i)) (c.puts.ensures i)) (others i)) in
+    let witnesses = (rw c.hasher-hasher.ensures at c.in_ok-witnesses.ensures)
+    ∙ (λ i. first i ∷ deposits_items hash (map (owner_in (pre i)) (c.puts.ensures i)) (others i)) in
     c.in_ok-tx.ensures ∙ ap (with_witnesses c.args.made.now.tx) (c.as_slice-3.ensures ∙ witnesses)

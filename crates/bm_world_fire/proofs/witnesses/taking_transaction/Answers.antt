@@ -28,7 +28,8 @@ unreachable-requires g c =
     let some = sym (compiled_is s w held.contract board.compiled c.requires.playable.compiled) ∙ c.requires.taking.compiled in
     let numbers = number_of s w held is t.compiled.now some in
     let none : prepared_at s.hash is.instance (position_path held t.number) ≡ None =
-    ap (prepared_at s.hash is.instance) (sym c.requires.taking.path) ∙ sym (c.transaction_at.ensures.compiled hash is.instance numbers) ∙ ap (option_map (λ r. r.now)) c.in_default.is in
+    ap (prepared_at s.hash is.instance) (sym c.requires.taking.path)
+    ∙ sym (c.transaction_at.ensures.compiled hash is.instance numbers) ∙ ap (option_map (λ r. r.now)) c.in_default.is in
     let x = sym none ∙ made_there s w held is t.number b o.branch in
     cc
 
@@ -71,7 +72,8 @@ returns g c =
     let made = made_is s w held is t.number b o.branch c.in-Some.made.now
     (sym (ap (option_map (λ r. r.now)) c.in-Some.is) ∙ c.transaction_at.ensures.compiled hash is.instance numbers ∙ ap (prepared_at s.hash is.instance) path) in
     let script = script_is s w held is c.in-Some-script_at.script.now
-    (sym (ap (option_map (λ r. r.now)) c.in-Some-script_at.is) ∙ c.script_at.ensures.compiled hash is.instance numbers ∙ ap (script_at s.hash is.instance) c.position-position.ensures) in
+    (sym (ap (option_map (λ r. r.now)) c.in-Some-script_at.is)
+    ∙ c.script_at.ensures.compiled hash is.instance numbers ∙ ap (script_at s.hash is.instance) c.position-position.ensures) in
     let text = advert_is s w held is t.checked.now c.requires.taking.checked in
     ap Some (c.in_ok-tx.ensures ∙ (λ i. taking_with s posted held.contract (text i) (c.requires.taking.hashes i) (path i) t.number
     (count i) b (made i) ((c.as_slice.ensures ∙ script) i)))
@@ -108,5 +110,6 @@ filled-requires-clause-some g c =
     let some = sym (compiled_is s w held.contract board.compiled c.requires.playable.compiled) ∙ c.requires.taking.compiled in
     let numbers = number_of s w held is t.compiled.now some in
     let made = made_is s w held is t.number b o.branch c.in-Some.made.now
-    (sym (ap (option_map (λ r. r.now)) c.in-Some.is) ∙ c.transaction_at.ensures.compiled hash is.instance numbers ∙ ap (prepared_at s.hash is.instance) c.requires.taking.path) in
+    (sym (ap (option_map (λ r. r.now)) c.in-Some.is)
+    ∙ c.transaction_at.ensures.compiled hash is.instance numbers ∙ ap (prepared_at s.hash is.instance) c.requires.taking.path) in
     subst (λ (d : Prepared). 0 < length d.digests) (sym made) (some_digest s w held is t.number b o.branch)

@@ -13,7 +13,8 @@ use Rattle.bm_world_spend.specs.Placed.{IsPlaced}
 use Rattle.bm_world_spend.proofs.Handed.{world_with}
 use Rattle.bm_world_spend.proofs.Standing.{compiled_unsigned, placed_unsigned}
 
-module _ {H : Type 0} (digest : H → Message → Message) (first here : H) (same : here ≡ first) (before after : Board) (pairs : List Pair) (signs : after ≡ record before { book = pairs }) where
+module _ {H : Type 0} (digest : H → Message → Message)
+    (first here : H) (same : here ≡ first) (before after : Board) (pairs : List Pair) (signs : after ≡ record before { book = pairs }) where
   -- what holds of the old board with these pairs and of the old hasher
   pub carried : (K : H → Board → Type 0) → K first (record before { book = pairs }) → K here after
   carried K k = subst (λ h. K h after) (sym same) (subst (λ b. K first b) (sym signs) k)

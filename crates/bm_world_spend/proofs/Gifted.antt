@@ -72,7 +72,8 @@ at_outpoint w apart n o h l = by_entry (at_place (live_from 0 w.outputs) o.outpo
         let is : q.1 ≡ tx_out o = f.same ∙ ap tx_out (sym same) in
         (q.0, e ∙ (λ i. Some (q.0, is i)))
 
-module _ (hash : List ℕ → List ℕ) (w : World) (apart : LieApart w) (account : Account) (tx : Tx) (numbers : List ℕ) (inputs : tx.inputs ≡ map (input_of w.outputs) numbers) where
+module _ (hash : List ℕ → List ℕ) (w : World)
+    (apart : LieApart w) (account : Account) (tx : Tx) (numbers : List ℕ) (inputs : tx.inputs ≡ map (input_of w.outputs) numbers) where
   abbrev signed : Tx
   signed = signed_tx hash w.outputs account tx numbers
 
@@ -82,7 +83,8 @@ module _ (hash : List ℕ → List ℕ) (w : World) (apart : LieApart w) (accoun
 
   same_bare : bare signed ≡ bare tx
   same_bare =
-      let e : map bare_input (map (signed_input hash w.outputs account tx) numbers) ≡ map bare_input tx.inputs = bare_inputs numbers ∙ ap (map bare_input) (sym inputs) in
+      let e : map bare_input (map (signed_input hash w.outputs account tx) numbers) ≡ map bare_input tx.inputs =
+      bare_inputs numbers ∙ ap (map bare_input) (sym inputs) in
       λ i. record { version = tx.version; inputs = e i; outputs = tx.outputs; lock = tx.lock }
 
   -- what is hashed for the signed input is what was hashed for its digest
@@ -94,7 +96,8 @@ module _ (hash : List ℕ → List ℕ) (w : World) (apart : LieApart w) (accoun
       let entry : at_place (live_from 0 w.outputs) (input_of w.outputs n).prev ≡ Some (at.0, tx_out g.output) =
       ap (λ o. at_place (live_from 0 w.outputs) (outpoint_of o)) g.there ∙ at.1 in
       let value : deposit_value (slice_get w.outputs n) ≡ g.output.value = ap deposit_value g.there ∙ rw g.deposit refl in
-      let message : preimage hash signed (signed_input hash w.outputs account tx n) account.script g.output.value ≡ preimage hash tx (input_of w.outputs n) account.script (deposit_value (slice_get w.outputs n)) =
+      let message : preimage hash signed (signed_input hash w.outputs account tx n) account.script g.output.value
+      ≡ preimage hash tx (input_of w.outputs n) account.script (deposit_value (slice_get w.outputs n)) =
       same_preimage hash signed tx (signed_input hash w.outputs account tx n) (input_of w.outputs n) account.script g.output.value same_bare refl
       ∙ ap (preimage hash tx (input_of w.outputs n) account.script) (sym value) in
       ap (λ r. option_map_or (λ (p : ℕ × TxOut). spending_strings hash signed (signed_input hash w.outputs account tx n) p.1) r []) entry
@@ -123,7 +126,8 @@ module _ (hash : List ℕ → List ℕ) (w : World) (apart : LieApart w) (accoun
 
 -- ---- what is signed with the giver's account
 
-module _ (s : Setup) (w : World) (party : List ℕ) (inputs : List ℕ) (outputs : List (List ℕ × ℕ)) (account : Account) (bare : Tx) (giver : account ≡ account_of s.hash party) (unsigned : bare ≡ unsigned_gift s w inputs outputs) where
+module _ (s : Setup) (w : World) (party : List ℕ) (inputs : List ℕ) (outputs : List (List ℕ × ℕ))
+    (account : Account) (bare : Tx) (giver : account ≡ account_of s.hash party) (unsigned : bare ≡ unsigned_gift s w inputs outputs) where
   -- is the gift
   pub gift_is : signed_tx s.hash w.outputs account bare inputs ≡ gift s w party inputs outputs
   gift_is = λ i. signed_tx s.hash w.outputs (giver i) (unsigned i) inputs

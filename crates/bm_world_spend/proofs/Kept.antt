@@ -50,7 +50,8 @@ module _ (s : Setup) (g : Configuration) (w : World) (keeps : KeptBooks s g w) w
   apart_kept = record { apart = keeps.book.apart }
 
 -- no live output has the id of a gift that is accepted
-module _ (s : Setup) (setup : IsSetup s) (g : Configuration) (w : World) (keeps : KeptBooks s g w) (party : List ℕ) (inputs : List ℕ) (outputs : List (List ℕ × ℕ)) (line : IsGift s party inputs outputs) where
+module _ (s : Setup) (setup : IsSetup s) (g : Configuration) (w : World)
+    (keeps : KeptBooks s g w) (party : List ℕ) (inputs : List ℕ) (outputs : List (List ℕ × ℕ)) (line : IsGift s party inputs outputs) where
   abbrev tx : Tx
   tx = gift s w party inputs outputs
 

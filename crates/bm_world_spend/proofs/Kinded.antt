@@ -42,7 +42,8 @@ node_is contract nodes path k None (Some b) h = absurd h
 node_is contract nodes path k (Some n) None h = absurd h
 node_is contract nodes path k (Some n) (Some b) h = ap (λ o. node_holds contract o k) h ∙ core_is contract path (n + 1) (core b) k
 
-module _ (s : Setup) (w : World) (compiled : List (Option Numbered)) (all : compiled ≡ all_compiled s w) (placed : IsPlaced s w) (branches : BranchesAreFound) (choices : ChoicesAreFound) where
+module _ (s : Setup) (w : World) (compiled : List (Option Numbered))
+    (all : compiled ≡ all_compiled s w) (placed : IsPlaced s w) (branches : BranchesAreFound) (choices : ChoicesAreFound) where
   -- what a branch of a position makes
   held_is : (held : ContractPosition) → IsPosition s w held → (branch k : ℕ)
       → branch_holds compiled branch (Some held) k ≡ ledger.branch_holds held.contract (position_path held branch) (position_branch s held branch) k

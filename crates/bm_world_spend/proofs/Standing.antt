@@ -28,7 +28,8 @@ length-compiled_from s w k (a ∷ adverts) = ap (λ n. suc n) (length-compiled_f
 pub length-all_compiled : (s : Setup) (w : World) → length (all_compiled s w) ≡ length s.contracts
 length-all_compiled s w = length-compiled_from s w 0 s.contracts
 
-module _ (s : Setup) (w : World) (compiled : List (Option Numbered)) (all : compiled ≡ all_compiled s w) (held : ContractPosition) (is : IsPosition s w held) where
+module _ (s : Setup) (w : World) (compiled : List (Option Numbered))
+    (all : compiled ≡ all_compiled s w) (held : ContractPosition) (is : IsPosition s w held) where
   contract : IsCompiledAt s w held.contract is.instance
   contract = compiled_is s w held.contract is.instance is.compiled
 

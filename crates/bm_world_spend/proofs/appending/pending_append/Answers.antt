@@ -33,5 +33,6 @@ pending_reaching-requires-clause-placed g c = placed_kept _ c.requires.playable.
 pub returns-in-Err-BadTx-clause-ok : goal.returns-in-Err-BadTx-clause-ok
 returns-in-Err-BadTx-clause-ok g c =
     let hash = g.H.Hash32.digest_of c.args.trail.now.hasher in
-    bad_prepares (setup_of hash c.args.board.now) (world_of c.args.board.now c.args.trail.now.messages) _ (transaction_of c.args.bytes.now) c.in-Err-BadTx.place c.refused.result
+    bad_prepares (setup_of hash c.args.board.now)
+    (world_of c.args.board.now c.args.trail.now.messages) _ (transaction_of c.args.bytes.now) c.in-Err-BadTx.place c.refused.result
     (c.decode.ensures.bad _ (c.in-Err-BadTx.is ∙ ap Err c.in-Err-BadTx.field-0-is)) c.refused.ensures.same c.refused.ensures.change c.requires.playable.clear

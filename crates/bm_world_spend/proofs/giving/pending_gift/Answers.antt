@@ -32,7 +32,8 @@ pending_reaching-requires-clause-inputs g c =
     let w = world_of before old in
     let pairs = signed_all before.book (given_pairs s w party inputs outputs) in
     let tx = gift s w party inputs outputs in
-    let same_strings = gift_strings-signed s w party inputs outputs (apart_kept _ c.requires.playable.kept.config _ c.requires.playable.kept.books) c.requires.passed in
+    let same_strings = gift_strings-signed s w party inputs outputs
+    (apart_kept _ c.requires.playable.kept.config _ c.requires.playable.kept.books) c.requires.passed in
     let l = ap (λ (t : Tx). length t.inputs) c.in_ok-tx.ensures.tx ∙ length_map (signed_input s w party (unsigned_gift s w inputs outputs)) inputs in
     let few = c.requires.few in
     omega (arith, l, few)
@@ -50,7 +51,8 @@ pending_reaching-requires-clause-room g c =
     let w = world_of before old in
     let pairs = signed_all before.book (given_pairs s w party inputs outputs) in
     let tx = gift s w party inputs outputs in
-    let same_strings = gift_strings-signed s w party inputs outputs (apart_kept _ c.requires.playable.kept.config _ c.requires.playable.kept.books) c.requires.passed in
+    let same_strings = gift_strings-signed s w party inputs outputs
+    (apart_kept _ c.requires.playable.kept.config _ c.requires.playable.kept.books) c.requires.passed in
     let l = ap (λ (t : Tx). length t.outputs) c.in_ok-tx.ensures.tx ∙ length_map (given_output s) outputs in
     let o = ap (λ (b : Board). length b.coins.outputs) c.in_ok-tx.ensures.board.rest in
     omega (arith, l, o, c.requires.playable.room, c.requires.gift.few_outputs)
@@ -76,7 +78,8 @@ pending_reaching-requires-clause-compiled g c =
     let w = world_of before old in
     let pairs = signed_all before.book (given_pairs s w party inputs outputs) in
     let tx = gift s w party inputs outputs in
-    let same_strings = gift_strings-signed s w party inputs outputs (apart_kept _ c.requires.playable.kept.config _ c.requires.playable.kept.books) c.requires.passed in
+    let same_strings = gift_strings-signed s w party inputs outputs
+    (apart_kept _ c.requires.playable.kept.config _ c.requires.playable.kept.books) c.requires.passed in
     let here = c.sign_gift.new.trail.hasher in
     let mid = c.sign_gift.new.trail.messages in
     let after = c.sign_gift.new.board in
@@ -98,7 +101,8 @@ pending_reaching-requires-clause-placed g c =
     let w = world_of before old in
     let pairs = signed_all before.book (given_pairs s w party inputs outputs) in
     let tx = gift s w party inputs outputs in
-    let same_strings = gift_strings-signed s w party inputs outputs (apart_kept _ c.requires.playable.kept.config _ c.requires.playable.kept.books) c.requires.passed in
+    let same_strings = gift_strings-signed s w party inputs outputs
+    (apart_kept _ c.requires.playable.kept.config _ c.requires.playable.kept.books) c.requires.passed in
     let here = c.sign_gift.new.trail.hasher in
     let mid = c.sign_gift.new.trail.messages in
     let after = c.sign_gift.new.board in
@@ -120,7 +124,8 @@ pending_reaching-requires-clause-fresh g c =
     let w = world_of before old in
     let pairs = signed_all before.book (given_pairs s w party inputs outputs) in
     let tx = gift s w party inputs outputs in
-    let same_strings = gift_strings-signed s w party inputs outputs (apart_kept _ c.requires.playable.kept.config _ c.requires.playable.kept.books) c.requires.passed in
+    let same_strings = gift_strings-signed s w party inputs outputs
+    (apart_kept _ c.requires.playable.kept.config _ c.requires.playable.kept.books) c.requires.passed in
     let here = c.sign_gift.new.trail.hasher in
     let mid = c.sign_gift.new.trail.messages in
     let after = c.sign_gift.new.board in
@@ -129,7 +134,8 @@ pending_reaching-requires-clause-fresh g c =
     let heard = subst (λ l. Hashed (digest first) old mid l) same_strings c.in_ok-tx.ensures.trail.1 in
     carried digest first here same before after pairs signs (λ h b. IsFresh (setup_of (digest h) b) (world_of b mid) c.in_ok-tx.tx)
     (subst (λ t. IsFresh s (world_with w pairs mid) t) (sym c.in_ok-tx.ensures.tx)
-    (fresh_again s w pairs tx old mid refl c.requires.playable.clear heard (fresh_gift _ c.requires.playable.setup c.requires.playable.kept.config _ c.requires.playable.kept.books party inputs outputs c.requires.gift c.requires.passed)))
+    (fresh_again s w pairs tx old mid refl c.requires.playable.clear heard (fresh_gift _ c.requires.playable.setup
+    c.requires.playable.kept.config _ c.requires.playable.kept.books party inputs outputs c.requires.gift c.requires.passed)))
 
 pub returns-in_err-tx-clause-err : goal.returns-in_err-tx-clause-err
 returns-in_err-tx-clause-err g c =
@@ -144,7 +150,8 @@ returns-in_err-tx-clause-err g c =
     let w = world_of before old in
     let pairs = signed_all before.book (given_pairs s w party inputs outputs) in
     let tx = gift s w party inputs outputs in
-    let same_strings = gift_strings-signed s w party inputs outputs (apart_kept _ c.requires.playable.kept.config _ c.requires.playable.kept.books) c.requires.passed in
+    let same_strings = gift_strings-signed s w party inputs outputs
+    (apart_kept _ c.requires.playable.kept.config _ c.requires.playable.kept.books) c.requires.passed in
     let p = err_from_is_err_and c.from_residual.result c.from_residual.ensures.1 in
     rw (p.1, p.2) (stops_signing s w pairs tx old c.sign_gift.new.trail.messages _
     (stops_same (digest first) _ _ _ _ _ same_strings c.in_err-tx.ensures.trail.2))
@@ -162,7 +169,8 @@ returns-in_err-pending_change-clause-err g c =
     let w = world_of before old in
     let pairs = signed_all before.book (given_pairs s w party inputs outputs) in
     let tx = gift s w party inputs outputs in
-    let same_strings = gift_strings-signed s w party inputs outputs (apart_kept _ c.requires.playable.kept.config _ c.requires.playable.kept.books) c.requires.passed in
+    let same_strings = gift_strings-signed s w party inputs outputs
+    (apart_kept _ c.requires.playable.kept.config _ c.requires.playable.kept.books) c.requires.passed in
     let here = c.sign_gift.new.trail.hasher in
     let mid = c.sign_gift.new.trail.messages in
     let after = c.sign_gift.new.board in
@@ -188,7 +196,8 @@ returns-clause-board g c =
     let w = world_of before old in
     let pairs = signed_all before.book (given_pairs s w party inputs outputs) in
     let tx = gift s w party inputs outputs in
-    let same_strings = gift_strings-signed s w party inputs outputs (apart_kept _ c.requires.playable.kept.config _ c.requires.playable.kept.books) c.requires.passed in
+    let same_strings = gift_strings-signed s w party inputs outputs
+    (apart_kept _ c.requires.playable.kept.config _ c.requires.playable.kept.books) c.requires.passed in
     let here = c.sign_gift.new.trail.hasher in
     let mid = c.sign_gift.new.trail.messages in
     let after = c.sign_gift.new.board in
@@ -196,7 +205,8 @@ returns-clause-board g c =
     let signs : after ≡ record before { book = pairs } = c.in_ok-tx.ensures.board.rest ∙ ap (λ x. record before { book = x }) c.in_ok-tx.ensures.pairs in
     let heard = subst (λ l. Hashed (digest first) old mid l) same_strings c.in_ok-tx.ensures.trail.1 in
     let few : c.count-count.result ≡ length before.book = c.count-count.ensures in
-    let rest : record after { book = c.keep_pairs.new.book } ≡ record before { book = c.keep_pairs.new.book } = ap (λ (b : Board). record b { book = c.keep_pairs.new.book }) c.in_ok-tx.ensures.board.rest in
+    let rest : record after { book = c.keep_pairs.new.book } ≡ record before { book = c.keep_pairs.new.book } =
+    ap (λ (b : Board). record b { book = c.keep_pairs.new.book }) c.in_ok-tx.ensures.board.rest in
     record {
       rest = rest;
       book = kept_prefix before.book after.book c.keep_pairs.new.book c.count-count.result _ few c.in_ok-tx.ensures.board.book c.keep_pairs.ensures;
@@ -215,7 +225,8 @@ returns-clause-ok g c =
     let w = world_of before old in
     let pairs = signed_all before.book (given_pairs s w party inputs outputs) in
     let tx = gift s w party inputs outputs in
-    let same_strings = gift_strings-signed s w party inputs outputs (apart_kept _ c.requires.playable.kept.config _ c.requires.playable.kept.books) c.requires.passed in
+    let same_strings = gift_strings-signed s w party inputs outputs
+    (apart_kept _ c.requires.playable.kept.config _ c.requires.playable.kept.books) c.requires.passed in
     let here = c.sign_gift.new.trail.hasher in
     let mid = c.sign_gift.new.trail.messages in
     let after = c.sign_gift.new.board in
@@ -226,8 +237,10 @@ returns-clause-ok g c =
     let x = c.in_ok-pending_change.pending_change in
     let final = c.keep_pairs.new.book in
     let few : c.count-count.result ≡ length before.book = c.count-count.ensures in
-    let prepares = returned digest first here same before after pairs signs (λ h b. Prepares (digest h) (world_of b mid) mid new (reaches_in (setup_of (digest h) b) (world_of b mid) c.in_ok-tx.tx) x) c.in_ok-pending_change.ensures.ok in
-    let applied = handed s w pairs tx old mid refl c.requires.playable.clear heard new x (subst (λ t. Prepares (digest first) (world_with w pairs mid) mid new (reaches_in s (world_with w pairs mid) t) x) c.in_ok-tx.ensures.tx prepares) in
+    let prepares = returned digest first here same before after pairs signs (λ h b. Prepares (digest h)
+    (world_of b mid) mid new (reaches_in (setup_of (digest h) b) (world_of b mid) c.in_ok-tx.tx) x) c.in_ok-pending_change.ensures.ok in
+    let applied = handed s w pairs tx old mid refl c.requires.playable.clear heard new x
+    (subst (λ t. Prepares (digest first) (world_with w pairs mid) mid new (reaches_in s (world_with w pairs mid) t) x) c.in_ok-tx.ensures.tx prepares) in
     let book : final ≡ (if is_some (tx_in x.change) then pairs else before.book) =
     kept_pairs before.book after.book final c.count-count.result (is_some (tx_in x.change)) few c.in_ok-tx.ensures.board.book c.keep_pairs.ensures
     ∙ ap (λ y. if is_some (tx_in x.change) then y else before.book) c.in_ok-tx.ensures.pairs in

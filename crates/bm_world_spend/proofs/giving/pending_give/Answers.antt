@@ -9,7 +9,8 @@ pub pending_gift-requires-clause-few : goal.pending_gift-requires-clause-few
 pending_gift-requires-clause-few g c =
     let hash = g.H.Hash32.digest_of c.args.trail.now.hasher in
     let messages = c.args.trail.now.messages in
-    let fewer = few_inputs (setup_of hash c.args.board.now) (world_of c.args.board.now messages) c.args.party.now c.args.inputs.now c.args.outputs.now (sym (c.give_refusal.ensures hash messages c.requires.playable.accounts) ∙ c.in_default.is) in
+    let fewer = few_inputs (setup_of hash c.args.board.now) (world_of c.args.board.now messages) c.args.party.now
+    c.args.inputs.now c.args.outputs.now (sym (c.give_refusal.ensures hash messages c.requires.playable.accounts) ∙ c.in_default.is) in
     omega (arith, fewer, c.requires.playable.room)
 
 pub pending_gift-requires-clause-passed : goal.pending_gift-requires-clause-passed
@@ -21,7 +22,9 @@ pub returns-in-Some-clause-ok : goal.returns-in-Some-clause-ok
 returns-in-Some-clause-ok g c =
     let hash = g.H.Hash32.digest_of c.args.trail.now.hasher in
     let messages = c.args.trail.now.messages in
-    prepares_refused hash (world_of c.args.board.now messages) messages _ c.in-Some.reason _ _ (sym (c.give_refusal.ensures hash messages c.requires.playable.accounts) ∙ c.in-Some.is) c.refused.ensures.same c.refused.ensures.change c.requires.playable.clear
+    prepares_refused hash (world_of c.args.board.now messages) messages _ c.in-Some.reason _ _
+    (sym (c.give_refusal.ensures hash messages c.requires.playable.accounts) ∙ c.in-Some.is)
+    c.refused.ensures.same c.refused.ensures.change c.requires.playable.clear
 
 pub returns-in_err-pending_change-clause-err : goal.returns-in_err-pending_change-clause-err
 returns-in_err-pending_change-clause-err g c =

@@ -28,7 +28,8 @@ returns-then-not-are_distinct c = λ hash messages same.
     let dead : first_dead w inputs ≡ None = sym (c.first_dead.ensures messages) ∙ c.in_default.is in
     let foreign : first_foreign s w c.args.party.now inputs ≡ None =
     sym (c.first_foreign.ensures ∙ foreign_is s c.args.board.now.accounts same w c.args.party.now inputs) ∙ c.in_default-first_foreign.is in
-    let distinct : lists.are_distinct inputs ≡ false = first_of (cc (c.are_distinct.ensures, c.if-not-are_distinct.true), grind (arith, c.are_distinct.ensures, c.if-not-are_distinct.true)) in
+    let distinct : lists.are_distinct inputs ≡ false =
+    first_of (cc (c.are_distinct.ensures, c.if-not-are_distinct.true), grind (arith, c.are_distinct.ensures, c.if-not-are_distinct.true)) in
     sym (λ i. refused_by (dead i) (foreign i) (distinct i) (nat_lt max_money (value_out outputs)) (nat_lt (value_in w inputs) (value_out outputs)))
 
 pub returns-in_default-value_out : goal.returns-in_default-value_out
@@ -40,7 +41,8 @@ returns-in_default-value_out c = λ hash messages same.
     let dead : first_dead w inputs ≡ None = sym (c.first_dead.ensures messages) ∙ c.in_default.is in
     let foreign : first_foreign s w c.args.party.now inputs ≡ None =
     sym (c.first_foreign.ensures ∙ foreign_is s c.args.board.now.accounts same w c.args.party.now inputs) ∙ c.in_default-first_foreign.is in
-    let distinct : lists.are_distinct inputs ≡ true = first_of (cc (c.are_distinct.ensures, c.if-not-are_distinct.false), grind (arith, c.are_distinct.ensures, c.if-not-are_distinct.false)) in
+    let distinct : lists.are_distinct inputs ≡ true =
+    first_of (cc (c.are_distinct.ensures, c.if-not-are_distinct.false), grind (arith, c.are_distinct.ensures, c.if-not-are_distinct.false)) in
     let above : nat_lt max_money (value_out outputs) ≡ true = sym c.value_out.ensures.none ∙ ap is_none c.in_default-value_out.is in
     sym (λ i. refused_by (dead i) (foreign i) (distinct i) (above i) (nat_lt (value_in w inputs) (value_out outputs)))
 
@@ -53,9 +55,11 @@ returns-then-is_short c = λ hash messages same.
     let dead : first_dead w inputs ≡ None = sym (c.first_dead.ensures messages) ∙ c.in_default.is in
     let foreign : first_foreign s w c.args.party.now inputs ≡ None =
     sym (c.first_foreign.ensures ∙ foreign_is s c.args.board.now.accounts same w c.args.party.now inputs) ∙ c.in_default-first_foreign.is in
-    let distinct : lists.are_distinct inputs ≡ true = first_of (cc (c.are_distinct.ensures, c.if-not-are_distinct.false), grind (arith, c.are_distinct.ensures, c.if-not-are_distinct.false)) in
+    let distinct : lists.are_distinct inputs ≡ true =
+    first_of (cc (c.are_distinct.ensures, c.if-not-are_distinct.false), grind (arith, c.are_distinct.ensures, c.if-not-are_distinct.false)) in
     let above : nat_lt max_money (value_out outputs) ≡ false = sym c.value_out.ensures.none ∙ ap is_none c.in-Some-value_out.is in
-    let short : nat_lt (value_in w inputs) (value_out outputs) ≡ true = ap (nat_lt (value_in w inputs)) (sym c.in-Some-value_out.ensures.some) ∙ sym (c.is_short.ensures messages) ∙ c.if-is_short.true in
+    let short : nat_lt (value_in w inputs) (value_out outputs) ≡ true =
+    ap (nat_lt (value_in w inputs)) (sym c.in-Some-value_out.ensures.some) ∙ sym (c.is_short.ensures messages) ∙ c.if-is_short.true in
     sym (λ i. refused_by (dead i) (foreign i) (distinct i) (above i) (short i))
 
 pub returns : goal.returns
@@ -67,7 +71,9 @@ returns c = λ hash messages same.
     let dead : first_dead w inputs ≡ None = sym (c.first_dead.ensures messages) ∙ c.in_default.is in
     let foreign : first_foreign s w c.args.party.now inputs ≡ None =
     sym (c.first_foreign.ensures ∙ foreign_is s c.args.board.now.accounts same w c.args.party.now inputs) ∙ c.in_default-first_foreign.is in
-    let distinct : lists.are_distinct inputs ≡ true = first_of (cc (c.are_distinct.ensures, c.if-not-are_distinct.false), grind (arith, c.are_distinct.ensures, c.if-not-are_distinct.false)) in
+    let distinct : lists.are_distinct inputs ≡ true =
+    first_of (cc (c.are_distinct.ensures, c.if-not-are_distinct.false), grind (arith, c.are_distinct.ensures, c.if-not-are_distinct.false)) in
     let above : nat_lt max_money (value_out outputs) ≡ false = sym c.value_out.ensures.none ∙ ap is_none c.in-Some-value_out.is in
-    let short : nat_lt (value_in w inputs) (value_out outputs) ≡ false = ap (nat_lt (value_in w inputs)) (sym c.in-Some-value_out.ensures.some) ∙ sym (c.is_short.ensures messages) ∙ c.if-is_short.false in
+    let short : nat_lt (value_in w inputs) (value_out outputs) ≡ false =
+    ap (nat_lt (value_in w inputs)) (sym c.in-Some-value_out.ensures.some) ∙ sym (c.is_short.ensures messages) ∙ c.if-is_short.false in
     sym (λ i. refused_by (dead i) (foreign i) (distinct i) (above i) (short i))

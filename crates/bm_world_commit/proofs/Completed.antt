@@ -37,7 +37,8 @@ pub promised_last : (ps : List Promise) (p : Promise) (party : List ℕ) → lis
     ≡ (list_any (is_promise_of p.contract party) ps || bytes_eq p.party party)
 promised_last ps p party =
     let e = eq-eqb p.contract p.contract refl in
-    let one : list_any (is_promise_of p.contract party) (p ∷ []) ≡ bytes_eq p.party party = last_one (is_promise_of p.contract party p) ∙ ap (λ b. b && bytes_eq p.party party) e in
+    let one : list_any (is_promise_of p.contract party) (p ∷ []) ≡ bytes_eq p.party party =
+    last_one (is_promise_of p.contract party p) ∙ ap (λ b. b && bytes_eq p.party party) e in
     any-append (is_promise_of p.contract party) ps (p ∷ []) ∙ ap (λ b. list_any (is_promise_of p.contract party) ps || b) one
 
 -- ---- bindings
@@ -81,5 +82,6 @@ module _ (s : Setup) (w : World) (k : ℕ) where
       → hashes ≡ digests_at w.promises k
       → instance_with k a (map (placed_at w.outputs) bindings) hashes ≡ instance_of w k a
   instance_by a bindings hashes eb eh =
-      let places : map (placed_at w.outputs) bindings ≡ bound_outpoints w (bindings_at w.advertised k) = ap (map (placed_at w.outputs)) eb ∙ sym (bound_each w (bindings_at w.advertised k)) in
+      let places : map (placed_at w.outputs) bindings ≡ bound_outpoints w (bindings_at w.advertised k) =
+      ap (map (placed_at w.outputs)) eb ∙ sym (bound_each w (bindings_at w.advertised k)) in
       λ i. record { contract = k; advert = a; bound = places i; hashes = eh i }

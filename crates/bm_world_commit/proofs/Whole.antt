@@ -57,7 +57,11 @@ module _ (s : Setup) (w : World) (k : ℕ) (party : List ℕ) (digests : List (L
                 strings more a h.hashed;
             ready = h.ready;
           }
-      by_case (Some r) h = record { same = ap (λ (y : Pending). record y { hashes = strings }) h.same; hashed = subst (λ l. Hashed s.hash old new l) nothing (Hashed-then s.hash old mid new strings [] a h.hashed); ready = h.ready }
+      by_case (Some r) h = record {
+        same = ap (λ (y : Pending). record y { hashes = strings }) h.same;
+        hashed = subst (λ l. Hashed s.hash old new l) nothing (Hashed-then s.hash old mid new strings [] a h.hashed);
+        ready = h.ready;
+      }
         where
           nothing : strings ++ [] ≡ strings
           nothing = append-nil strings
@@ -111,7 +115,8 @@ module _ (s : Setup) (w : World) (k : ℕ) (party : List ℕ) (digests : List (L
   repeated_none e = ap (λ o. if is_some o then Some (reason.HashRepeated (bytes_or_none o)) else None) e
 
   -- the world with the commitment that code makes
-  module _ (p : Promising) (contract : p.contract ≡ k) (owner : p.party ≡ party) (same : p.digests ≡ arranged [] (secrets_at s k party) (committed_digests s k party digests)) where
+  module _ (p : Promising) (contract : p.contract ≡ k)
+      (owner : p.party ≡ party) (same : p.digests ≡ arranged [] (secrets_at s k party) (committed_digests s k party digests)) where
     next_is : promised w p ≡ next
     next_is = λ i. record w { promises = w.promises ++ record { contract = contract i; party = owner i; digests = same i } ∷ [] }
 

@@ -23,7 +23,8 @@ returns-in-Some-clause-ok g c = λ messages.
     let digests = c.args.digests.now in
     let found : repeated_digest s w k party digests ≡ Some c.in-Some.name =
     ap (used_again (used_digests c.args.board.now.exchange.promises)) (sym c.requires.committed) ∙ sym c.repeated_digest.ensures ∙ c.in-Some.is in
-    prepares_refused hash w c.args.trail.now.messages _ _ (committed_pending s (with_promise s w k party digests) k party []) _ (repeated_some s w k party digests c.in-Some.name found) c.refused.ensures.same c.refused.ensures.change c.requires.clear
+    prepares_refused hash w c.args.trail.now.messages _ _ (committed_pending s (with_promise s w k party digests) k party []) _
+    (repeated_some s w k party digests c.in-Some.name found) c.refused.ensures.same c.refused.ensures.change c.requires.clear
 
 pub arranged-requires : goal.arranged-requires
 arranged-requires g c =
@@ -33,7 +34,8 @@ arranged-requires g c =
     let party = c.args.party.now in
     let digests = c.args.digests.now in
     let tests = no_reason-none_true (commit_row s w k party digests) (c.requires.row []) in
-    let looked : list_all (λ n. is_some (look_up n (committed_digests s k party digests))) (secrets_at s k party) ≡ true = digests_looked s k party digests (not-false _ tests.1.1.1.1.0) in
+    let looked : list_all (λ n. is_some (look_up n (committed_digests s k party digests))) (secrets_at s k party) ≡ true =
+    digests_looked s k party digests (not-false _ tests.1.1.1.1.0) in
     subst (λ ds. list_all (λ n. is_some (look_up n ds)) c.args.names.now ≡ true) (sym c.requires.committed)
     (subst (λ ns. list_all (λ n. is_some (look_up n (committed_digests s k party digests))) ns ≡ true) (sym c.requires.names) looked)
 
@@ -53,7 +55,8 @@ returns-clause-ok g c = λ messages.
     let none : repeated_digest s w k party digests ≡ None =
     ap (used_again (used_digests c.args.board.now.exchange.promises)) (sym c.requires.committed) ∙ sym c.repeated_digest.ensures ∙ c.in_default.is in
     let p : Promising = record { contract = k; party = party; digests = c.in_ok-arranged.field-0 } in
-    let made : c.in_ok-arranged.field-0 ≡ arranged [] (secrets_at s k party) (committed_digests s k party digests) = c.in_ok-arranged.ensures ∙ (λ i. arranged [] (c.requires.names i) (c.requires.committed i)) in
+    let made : c.in_ok-arranged.field-0 ≡ arranged [] (secrets_at s k party) (committed_digests s k party digests) =
+    c.in_ok-arranged.ensures ∙ (λ i. arranged [] (c.requires.names i) (c.requires.committed i)) in
     later_ok s w k party digests p refl refl made c.args.trail.now.messages c.compile_last.new.trail.messages c.done.result
     (repeated_none s w k party digests none) c.done.ensures.same c.done.ensures.change (c.in_ok-compiled.ensures.trail messages).1
 
@@ -67,6 +70,7 @@ returns-clause-compiled g c = λ messages all.
     let none : repeated_digest s w k party digests ≡ None =
     ap (used_again (used_digests c.args.board.now.exchange.promises)) (sym c.requires.committed) ∙ sym c.repeated_digest.ensures ∙ c.in_default.is in
     let p : Promising = record { contract = k; party = party; digests = c.in_ok-arranged.field-0 } in
-    let made : c.in_ok-arranged.field-0 ≡ arranged [] (secrets_at s k party) (committed_digests s k party digests) = c.in_ok-arranged.ensures ∙ (λ i. arranged [] (c.requires.names i) (c.requires.committed i)) in
+    let made : c.in_ok-arranged.field-0 ≡ arranged [] (secrets_at s k party) (committed_digests s k party digests) =
+    c.in_ok-arranged.ensures ∙ (λ i. arranged [] (c.requires.names i) (c.requires.committed i)) in
     later_placed s w k party digests p refl refl made c.args.board.now.compiled c.in_ok-compiled.compiled (c.requires.row messages)
     (repeated_none s w k party digests none) all (c.in_ok-compiled.ensures.compiled messages)

@@ -27,7 +27,8 @@ returns-then-not-have_promised-clause-compiled g c = λ messages.
     let next = promised (world_of c.args.board.now messages) c.args.promising.now in
     let k = c.args.promising.now.contract in
     let there : contract_at s k ≡ Some c.in-Some.checked.now = sym c.contract.ensures ∙ ap (option_map (λ r. r.now)) c.in-Some.is in
-    let some_not : have_promised next k (participants c.in-Some.checked.now) ≡ false = rw c.parties.ensures at (sym c.have_promised.ensures ∙ c.if-not-have_promised.true) in
+    let some_not : have_promised next k (participants c.in-Some.checked.now) ≡ false =
+    rw c.parties.ensures at (sym c.have_promised.ensures ∙ c.if-not-have_promised.true) in
     sym (ap (entry_of hash k) (none_complete s next k c.in-Some.checked.now there some_not))
 
 pub returns-then-not-have_promised-clause-trail : goal.returns-then-not-have_promised-clause-trail
@@ -38,13 +39,15 @@ returns-then-not-have_promised-clause-trail g c = λ messages.
     let k = c.args.promising.now.contract in
     let old = c.args.trail.now.messages in
     let there : contract_at s k ≡ Some c.in-Some.checked.now = sym c.contract.ensures ∙ ap (option_map (λ r. r.now)) c.in-Some.is in
-    let some_not : have_promised next k (participants c.in-Some.checked.now) ≡ false = rw c.parties.ensures at (sym c.have_promised.ensures ∙ c.if-not-have_promised.true) in
+    let some_not : have_promised next k (participants c.in-Some.checked.now) ≡ false =
+    rw c.parties.ensures at (sym c.have_promised.ensures ∙ c.if-not-have_promised.true) in
     let none = none_complete s next k c.in-Some.checked.now there some_not in
     (refl, subst (λ o. Hashed hash old old (strings_compiled s o)) (sym none) (hashed_none hash old c.requires.clear), tt)
 
 pub compile_bound-requires-clause-made : goal.compile_bound-requires-clause-made
 compile_bound-requires-clause-made g c =
-    subst (λ bs. are_made c.args.board.now.coins.outputs bs ≡ true) (sym c.in-Some-bindings.ensures.bindings) ((c.requires.bound []).made (sym c.in-Some-bindings.ensures.there))
+    subst (λ bs. are_made c.args.board.now.coins.outputs bs ≡ true)
+    (sym c.in-Some-bindings.ensures.bindings) ((c.requires.bound []).made (sym c.in-Some-bindings.ensures.there))
 
 pub compile_bound-requires-clause-bound : goal.compile_bound-requires-clause-bound
 compile_bound-requires-clause-bound g c =
@@ -68,7 +71,8 @@ returns-in_err-compiled-clause-trail g c = λ messages.
     let there : contract_at s k ≡ Some checked = sym c.contract.ensures ∙ ap (option_map (λ r. r.now)) c.in-Some.is in
     let all : have_promised next k (participants checked) ≡ true = rw c.parties.ensures at (sym c.have_promised.ensures ∙ c.if-not-have_promised.false) in
     let some : compiled_instance s next k ≡ Some (instance_with k checked (map (placed_at c.args.board.now.coins.outputs) bindings) hashes) =
-    compiled_from s next k checked there (sym c.in-Some-bindings.ensures.there) all ∙ ap Some (sym (instance_by s next k checked bindings hashes c.in-Some-bindings.ensures.bindings refl)) in
+    compiled_from s next k checked there (sym c.in-Some-bindings.ensures.there) all
+    ∙ ap Some (sym (instance_by s next k checked bindings hashes c.in-Some-bindings.ensures.bindings refl)) in
     let p = err_from_is_err_and c.from_residual.result c.from_residual.ensures.1 in
     rw (p.1, p.2) (
       c.in_err-compiled.ensures.trail.0,
@@ -90,7 +94,8 @@ returns-clause-compiled g c = λ messages.
     let there : contract_at s k ≡ Some checked = sym c.contract.ensures ∙ ap (option_map (λ r. r.now)) c.in-Some.is in
     let all : have_promised next k (participants checked) ≡ true = rw c.parties.ensures at (sym c.have_promised.ensures ∙ c.if-not-have_promised.false) in
     let some : compiled_instance s next k ≡ Some (instance_with k checked (map (placed_at c.args.board.now.coins.outputs) bindings) hashes) =
-    compiled_from s next k checked there (sym c.in-Some-bindings.ensures.there) all ∙ ap Some (sym (instance_by s next k checked bindings hashes c.in-Some-bindings.ensures.bindings refl)) in
+    compiled_from s next k checked there (sym c.in-Some-bindings.ensures.there) all
+    ∙ ap Some (sym (instance_by s next k checked bindings hashes c.in-Some-bindings.ensures.bindings refl)) in
     ap (λ n. Some (k, n)) c.in_ok-compiled.ensures.compiled ∙ sym (ap (entry_of hash k) some)
 
 pub returns-clause-trail : goal.returns-clause-trail
@@ -105,7 +110,8 @@ returns-clause-trail g c = λ messages.
     let there : contract_at s k ≡ Some checked = sym c.contract.ensures ∙ ap (option_map (λ r. r.now)) c.in-Some.is in
     let all : have_promised next k (participants checked) ≡ true = rw c.parties.ensures at (sym c.have_promised.ensures ∙ c.if-not-have_promised.false) in
     let some : compiled_instance s next k ≡ Some (instance_with k checked (map (placed_at c.args.board.now.coins.outputs) bindings) hashes) =
-    compiled_from s next k checked there (sym c.in-Some-bindings.ensures.there) all ∙ ap Some (sym (instance_by s next k checked bindings hashes c.in-Some-bindings.ensures.bindings refl)) in (
+    compiled_from s next k checked there (sym c.in-Some-bindings.ensures.there) all
+    ∙ ap Some (sym (instance_by s next k checked bindings hashes c.in-Some-bindings.ensures.bindings refl)) in (
       c.in_ok-compiled.ensures.trail.0,
       subst
           (λ o. Hashed hash c.args.trail.now.messages c.compile_bound.new.trail.messages (strings_compiled s o)) (sym some) c.in_ok-compiled.ensures.trail.1,
